@@ -103,6 +103,12 @@ def make():
         recording.sent(200 * place, 3, e131.data(9, place, [99, 98, 97]))
     recording.sent(1600, 3, PAGE)
     recording.close()
+    # Universe 1 is sent once, at the beginning, and universe 2 for half a minute.
+    recording = e131.Recording("gone.pcap")
+    recording.sent(0, 3, e131.data(1, 0, [77, 88, 99]))
+    for place in range(60):
+        recording.sent(500 * place, 3, e131.data(2, place, [7, 8, 9]))
+    recording.close()
 
 
 def socket_of(word):

@@ -321,6 +321,20 @@ deafens
 [ "$(levels 1)" = "0 0 0" ] && [ "$(levels 2)" = "50 200 30,50 100 30" ] && grep -qxE "played 18 datagrams, passed over 18 of other universes, sent [0-9]+" err
 verdict "one in whose place another is sent is left out" $? "$(levels 1); $(levels 2), $(tail -n 1 err)"
 
+# Where the recording is played from another place, a universe that isn't sent there goes dark, as if its source were lost; others go on.
+hears "$port"
+begins gone.pcap --as backup.toml
+is_lit() { [ "$(levels 1)" = "77 88 99" ]; }
+wait_until is_lit
+answers 'at 10' '^ok at 10\.000 s$'
+is_dark() { [ "$(levels 1)" = "77 88 99,0 0 0" ]; }
+wait_until is_dark
+[ "$(levels 1)" = "77 88 99,0 0 0" ] && [ "$(levels 2)" = "7 8 9" ] && kill -0 "$player"
+verdict "behind at the light of a universe that isn't sent there goes" $? "$(levels 1); $(levels 2)"
+ends
+wait_until all_ended
+deafens
+
 # Stopped for longer than 2500 ms it skips what is older by then, and goes on as the same source.
 hears "$port"
 begins long.pcap --as backup.toml

@@ -20,7 +20,7 @@ use Rattle.sacn_source.specs.Source.{Source, new_source, after_order}
 use Rattle.sacn_played_source.specs.declared.played_universe.PlayedUniverse.{PlayedUniverse}
 use Rattle.sacn_played_source.specs.Universes.{is_of, new_universe, rewound, taken, merged, sent_from, all_sent}
 use Rattle.sacn_played_source.specs.Played.{Played, add_all, new_played, taken_at, taken_by, after_reading}
-use Rattle.sacn_played_source.specs.Calls.{Call, Hear, Advance, Rewind, Poll, EndAll, after_calls, told_by, told, heard, held_or, levels_sent}
+use Rattle.sacn_played_source.specs.Calls.{Call, Hear, Advance, Rewind, Poll, EndAll, after_calls, told_by, told, begun, is_own, held_or, levels_sent}
 use Rattle.sacn_played_source.specs.Laws.{levels_on, SendsWhatTheListSays, SendsWhatIsHeld}
 use Rattle.sacn_played_source.proofs.SourceLevels.{polled, ended, set_here, set_elsewhere}
 use Rattle.sacn_played_source.proofs.Adding.{Once, named_once, dark_first}
@@ -36,17 +36,17 @@ unfolding merge
 whole members = length-map-range_with_len (merged_level members) 0 512
 
 abbrev levels_of : PlayedUniverse → List ℕ → List ℕ
-levels_of o old = cond o.heard (slots_of o.table.table.rows) old
+levels_of o old = cond o.is_own (slots_of o.table.table.rows) old
 
 sends_one : (u : ℕ) (o : PlayedUniverse) (c : Source) (old : List ℕ) → o.universe ≡ u → levels_on u c ≡ Some old → levels_on u (sent_from o c) ≡ Some (levels_of o old)
-sends_one u o c old e is = by o.heard
+sends_one u o c old e is = by o.is_own
   where
     by : (b : Bool) → levels_on u (cond b (after_order (SetLevels o.universe (slots_of o.table.table.rows)) c) c) ≡ Some (cond b (slots_of o.table.table.rows) old)
     by true = rw e (set_here u (slots_of o.table.table.rows) c old (whole (layers o.table.table.rows)) is)
     by false = is
 
 sends_other : (u : ℕ) (o : PlayedUniverse) (c : Source) → (o.universe == u) ≡ false → levels_on u (sent_from o c) ≡ levels_on u c
-sends_other u o c other = by o.heard
+sends_other u o c other = by o.is_own
   where
     by : (b : Bool) → levels_on u (cond b (after_order (SetLevels o.universe (slots_of o.table.table.rows)) c) c) ≡ levels_on u c
     by true = set_elsewhere u o.universe (slots_of o.table.table.rows) c other
@@ -83,7 +83,7 @@ all_sends (x ∷ os) u o c old once found is =
 -- ---- what is kept
 
 abbrev universe_by : ℕ → List table.Call → PlayedUniverse
-universe_by u t = record { universe = u; heard = heard t; table = table.after_calls t }
+universe_by u t = record { universe = u; begun = begun t; is_own = is_own t; table = table.after_calls t }
 
 -- of a universe whose table was told these calls, and whose levels are these
 record Keeps (u : ℕ) (us : List ℕ) (t : List table.Call) (levels : List ℕ) (p : Played) : Type 0 where
@@ -92,7 +92,7 @@ record Keeps (u : ℕ) (us : List ℕ) (t : List table.Call) (levels : List ℕ)
   numbers : map number p.universes ≡ us
 
 twice : (t : List table.Call) (levels : List ℕ) → held_or t (held_or t levels) ≡ held_or t levels
-twice t levels = by (heard t) (slots_of (table.after_calls t).table.rows)
+twice t levels = by (is_own t) (slots_of (table.after_calls t).table.rows)
   where
     by : (b : Bool) (l : List ℕ) → cond b l (cond b l levels) ≡ cond b l levels
     by true l = refl

@@ -1,5 +1,5 @@
 -- Calls of a recording that is played as a source. A history is the list of the calls so far, the latest first.
-use Rattle.std.specs.Prelude.{ℕ, Bool, false, ◌||◌, ◌==◌, if◌then◌else◌, List, [], ◌∷◌, Ok, Err}
+use Rattle.std.specs.Prelude.{ℕ, Bool, false, ◌||◌, ◌==◌, if◌then◌else◌, List, [], ◌∷◌, Option, Some, None, Ok, Err}
 use Rattle.sacn_packets.specs.PacketReading.{Reading, reading_packet}
 use Rattle.sacn_packets.specs.declared.framing.packet.Packet.TheVariants.{DataPacket, PagePacket, SyncPacket}
 use Rattle.sacn_sources.specs.Packets.{packet_of}
@@ -8,6 +8,7 @@ use Rattle.sacn_sources.specs.Calls as table
 use Rattle.sacn_sources.specs.Calls.{Take, Expire, Merge}
 use Rattle.sacn_console.specs.declared.sender.Sender.{Sender}
 use Rattle.sacn_source.specs.Rows.{dark}
+use Rattle.sacn_played_source.specs.Universes.{since, is_over}
 use Rattle.sacn_played_source.specs.Played.{Played, new_played, after_reading, after_advance, after_rewind, after_poll, after_end_all}
 
 -- a call, with the moment of the recording, or for a poll that of the machine's clock
@@ -48,18 +49,25 @@ told u (Rewind ∷ earlier) = []
 told u (Poll now ∷ earlier) = told u earlier
 told u (EndAll ∷ earlier) = told u earlier
 
--- a packet renewed a source
-abbrev pub heard : List table.Call → Bool
-heard [] = false
-heard (Take moment x ∷ earlier) = heard earlier || renews (answer moment x (table.after_calls earlier).table)
-heard (Expire moment ∷ earlier) = heard earlier
-heard (Merge moment ∷ earlier) = heard earlier
+-- the first moment at which it was merged
+abbrev pub begun : List table.Call → Option ℕ
+begun [] = None
+begun (Take moment x ∷ earlier) = begun earlier
+begun (Expire moment ∷ earlier) = begun earlier
+begun (Merge moment ∷ earlier) = Some (since (begun earlier) moment)
 
--- the merge of what such a table holds, where a packet renewed a source, and else the levels before
+-- a packet renewed a source, or what was sent before is over
+abbrev pub is_own : List table.Call → Bool
+is_own [] = false
+is_own (Take moment x ∷ earlier) = is_own earlier || renews (answer moment x (table.after_calls earlier).table)
+is_own (Expire moment ∷ earlier) = is_own earlier
+is_own (Merge moment ∷ earlier) = is_own earlier || is_over (since (begun earlier) moment) moment
+
+-- the merge of what such a table holds, where that is sent, and else the levels before
 abbrev pub held_or : List table.Call → List ℕ → List ℕ
-held_or calls before = if heard calls then slots_of (table.after_calls calls).table.rows else before
+held_or calls before = if is_own calls then slots_of (table.after_calls calls).table.rows else before
 
--- the levels that are sent on a universe: they stay when the recording begins anew, until it is heard there
+-- the levels that are sent on a universe: they stay when the recording begins anew, until a packet renews a source there or they are over
 abbrev pub levels_sent : ℕ → List Call → List ℕ
 levels_sent u [] = dark
 levels_sent u (Hear moment octets ∷ earlier) = held_or (told u (Hear moment octets ∷ earlier)) (levels_sent u earlier)

@@ -8,7 +8,7 @@ use Rattle.sacn_console.specs.declared.sender.Sender.{Sender}
 use Rattle.sacn_source.specs.Table.{is_of}
 use Rattle.sacn_source.specs.Source.{Source, new_source}
 use Rattle.sacn_played_source.specs.Played.{add_all}
-use Rattle.sacn_played_source.specs.Calls.{Call, after_calls, told, heard, levels_sent}
+use Rattle.sacn_played_source.specs.Calls.{Call, after_calls, told, is_own, levels_sent}
 
 -- the levels that a source has for a universe
 abbrev pub levels_on : ℕ → Source → Option (List ℕ)
@@ -21,11 +21,11 @@ SendsWhatTheListSays = (sender : Sender) (us : List ℕ) (first : ℕ) (calls : 
     → list_any (λ v. v == u) us ≡ true
     → levels_on u (after_calls sender us first calls).source ≡ Some (levels_sent u calls)
 
--- Where a packet renewed a source since the recording began, that is the merge of what a table holds that was told the same datagrams at
--- the same moments.
+-- Where a packet renewed a source since the recording began, or 2500 ms of it have passed since, that is the merge of what a table holds that
+-- was told the same datagrams at the same moments.
 abbrev pub SendsWhatIsHeld : Type 0
 SendsWhatIsHeld = (sender : Sender) (us : List ℕ) (first : ℕ) (calls : List Call) (u : ℕ)
     → add_all us (new_source sender (length us) first) ≡ Ok tt
     → list_any (λ v. v == u) us ≡ true
-    → heard (told u calls) ≡ true
+    → is_own (told u calls) ≡ true
     → levels_on u (after_calls sender us first calls).source ≡ Some (slots_of (table.after_calls (told u calls)).table.rows)

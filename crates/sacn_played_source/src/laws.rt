@@ -6,8 +6,8 @@ pub fn sends_what_the_list_says()
     ensures { SendsWhatTheListSays }
 {}
 
-/// After any list of calls, where a packet renewed a source on a universe since the recording began, what is sent there is the merge
-/// of what a table holds that was told the same datagrams at the same moments (E1.31, 6.7.1 among them).
+/// After any list of calls, where a packet renewed a source on a universe since the recording began, or 2500 ms of it have passed since,
+/// what is sent there is the merge of what a table holds that was told the same datagrams at the same moments (E1.31, 6.7.1 among them).
 pub fn sends_what_is_held()
     ensures { SendsWhatIsHeld }
 {}

@@ -21,7 +21,7 @@ use std::marker::Model;
 /// Moments of the recording are milliseconds from any beginning; those that go back count as the greatest that their universe
 /// was handed since the recording began. The machine's clock is another one: only `poll` and `wakes` speak of it. So while a recording is
 /// paused its light stays, and is kept alive. What a universe sends before one of its packets renewed a source are levels of 0, and after
-/// `rewind` those of before.
+/// `rewind` those of before, for `NETWORK_DATA_LOSS` milliseconds of the recording: then they are as old as a source that is lost.
 ///
 /// Only `new` and `rewind` take memory. No datagram is borrowed after a call returns.
 #[derive(Drop)]
@@ -109,8 +109,8 @@ impl PlayedSource {
         send_all(&mut self.universes, moment, &mut self.source);
     }
 
-    /// The first moment of the recording at which a source is lost unless it is heard before. `None` where there is none: no source is
-    /// held, or none is lost at a moment of a `u64`.
+    /// The first moment of the recording at which something that is sent is lost if no packet comes: a source, or the levels of before a
+    /// `rewind`. `None` where there is none, or none is lost at a moment of a `u64`.
     pub fn next_loss(&self) -> Option<u64>
         ensures never { IfNone result (NoneLostBefore self.now.universes (2 ^ 64)) }
         ensures asleep { IfSome result (λ moment. NoneLostBefore self.now.universes moment) }
@@ -120,7 +120,7 @@ impl PlayedSource {
     }
 
     /// The recording begins anew, at any moment: its sources are forgotten. What is sent on a universe stays until a packet renews a source
-    /// there.
+    /// there, or for `NETWORK_DATA_LOSS` milliseconds behind the first moment that comes.
     ///
     /// Errors: `OutOfMemory` where a request was refused; then nothing changed.
     pub fn rewind(&mut self, alloc: Global) -> Result<(), SourceFault>

@@ -2,19 +2,22 @@
 ghost use Rattle.std.specs.Prelude.{◌≡◌, ◌<◌, ◌≤◌, ◌^◌, ◌++◌, ◌∷◌, [], ℕ, length, map, position, IfOk, IfErr, IfSome, IfNone};
 ghost use Rattle.sacn_sources.specs.Packets.{packet_of};
 ghost use Rattle.sacn_source.specs.declared.fault.SourceFault.TheVariants.{OutOfMemory};
-ghost use Rattle.sacn_played_source.specs.Universes.{new_universe, taken, merged, sent_from, all_sent, rewound, earlier, is_of, NoneLostBefore, OneLostAt};
+ghost use Rattle.sacn_played_source.specs.Universes.{new_universe, taken, merged, sent_from, all_sent, rewound, earlier, is_of, before_lost, lost_by, NoneLostBefore, OneLostAt};
 
 use sacn_packets::{DataView, SLOTS};
 use sacn_source::{SourceCore, SourceFault};
-use sacn_sources::SourceTable;
+use sacn_sources::{NETWORK_DATA_LOSS, SourceTable};
 use std::alloc::Global;
 
 /// What a recording holds of one universe.
 #[derive(Drop)]
 pub(crate) struct PlayedUniverse {
     pub(crate) universe: u16,
-    /// Whether a packet renewed a source since the recording began. Before, what is sent stays.
-    pub(crate) heard: bool,
+    /// The first moment that it was handed since the recording began.
+    pub(crate) begun: Option<u64>,
+    /// Whether what its table holds is sent: a packet renewed a source since the recording began, or what was sent before is as old as a
+    /// source that is lost. Until then that stays.
+    pub(crate) is_own: bool,
     pub(crate) table: SourceTable,
 }
 
@@ -27,7 +30,8 @@ impl PlayedUniverse {
         match SourceTable::new(alloc) {
             Ok(table) => Ok(PlayedUniverse {
                 universe,
-                heard: false,
+                begun: None,
+                is_own: false,
                 table,
             }),
             Err(_) => Err(SourceFault::OutOfMemory),
@@ -39,18 +43,44 @@ impl PlayedUniverse {
         ensures { self.new ≡ taken moment (packet_of packet.now) self.old }
     {
         let taken = self.table.take(moment, packet);
-        self.heard |= taken.renews();
+        self.is_own |= taken.renews();
     }
 
-    /// Hands the merge at this moment to the source, where the universe was heard. Levels that are as before ask for no packet.
+    /// Hands the merge at this moment to the source, unless what was sent before stays. Levels that are as before ask for no packet.
     pub(crate) fn send(&mut self, moment: u64, source: &mut SourceCore)
         ensures universe { self.new ≡ merged moment self.old }
         ensures source { source.new ≡ sent_from (merged moment self.old) source.old }
     {
+        let begun = self.begun.unwrap_or(moment);
+        self.begun = Some(begun);
+        self.is_own |= moment.saturating_sub(begun) >= NETWORK_DATA_LOSS;
         let mut slots = [0; SLOTS];
         self.table.merged(moment, &mut slots);
-        if self.heard {
+        if self.is_own {
             let _ = source.set_levels(self.universe, &slots);
+        }
+    }
+
+    /// The first moment at which something that is sent is lost, if no packet comes: a source, or what was sent before the recording
+    /// began.
+    fn wakes(&self) -> Option<u64>
+        ensures never { IfNone result ((t : ℕ) → t < 2 ^ 64 → lost_by t self.now ≡ 0) }
+        ensures asleep { IfSome result (λ moment. (t : ℕ) → t < moment → lost_by t self.now ≡ 0) }
+        ensures awake { IfSome result (λ moment. 1 ≤ lost_by moment self.now) }
+    {
+        earlier(self.table.wakes(), self.stays_until())
+    }
+
+    // The moment at which what was sent before the recording began is over, where it is still sent.
+    fn stays_until(&self) -> Option<u64>
+        ensures never { IfNone result ((t : ℕ) → t < 2 ^ 64 → before_lost t self.now ≡ 0) }
+        ensures asleep { IfSome result (λ moment. (t : ℕ) → t < moment
+            → before_lost t self.now ≡ 0) }
+        ensures awake { IfSome result (λ moment. before_lost moment self.now ≡ 1) }
+    {
+        match self.begun {
+            Some(begun) if !self.is_own => begun.checked_add(NETWORK_DATA_LOSS),
+            _ => None,
         }
     }
 }
@@ -120,7 +150,7 @@ pub(crate) fn send_all(universes: &mut [PlayedUniverse], moment: u64, source: &m
     }
 }
 
-/// The first moment at which a source of one of these universes is lost unless it is heard before.
+/// The first moment at which something of one of these universes is lost, if no packet comes before.
 pub(crate) fn next_loss(universes: &[PlayedUniverse]) -> Option<u64>
     ensures never { IfNone result (NoneLostBefore universes.now (2 ^ 64)) }
     ensures asleep { IfSome result (λ moment. NoneLostBefore universes.now moment) }
@@ -129,7 +159,7 @@ pub(crate) fn next_loss(universes: &[PlayedUniverse]) -> Option<u64>
     let mut first = None;
     for place in 0..universes.len() {
         let one = &universes[place];
-        first = earlier(first, one.table.wakes());
+        first = earlier(first, one.wakes());
     }
     first
 }
