@@ -329,19 +329,23 @@ def no_packet_is_a_failure(sacn):
 
 
 def hosts_have_names(sacn):
-    """The launcher looks names up; here by a table of its own."""
-    host = Host()
-    known = 'getent() { if [ "$2" = stage-1 ]; then echo "127.0.0.1 STREAM stage-1"; else return 2; fi; }'
-    with launcher_of(sacn, known) as command:
-        desk = Desk(sacn, "--to", f"1-3=stage-1:{host.port}", f"--to=4=127.0.0.1:{host.port}", command=command)
-        if not host.wait(lambda: host.universes() == [1, 2, 3, 4]):
-            yield f"to the name came {host.universes()}"
-        said = desk.end()[2].splitlines()
-        if said[:2] != [f'desk "Desk" priority 100 universes 1-4,7 to 1-3,4=127.0.0.1:{host.port}', "no --to takes universe 7 of the show"]:
-            yield f"it said {said[:2]}"
-        status, out, err = Desk(sacn, "--to", "stage-2", command=command).end()
-        if status != 2 or out or not err.startswith("sacn: --to stage-2: this machine knows no host stage-2 "):
-            yield f"an unknown name: status {status}, {out!r}, {err!r}"
+    """The launcher looks names up; here by a table of its own, by which this machine has no address itself, or by that of an older one."""
+    answer = 'then echo "127.0.0.1 STREAM stage-1"; else return 2; fi; }'
+    for known in (
+        'getent() { if [ "$*" = "-A ahostsv4 stage-1" ]; ' + answer,
+        'getent() { if [ "$1" = -A ]; then return 64; fi; if [ "$*" = "ahostsv4 stage-1" ]; ' + answer,
+    ):
+        host = Host()
+        with launcher_of(sacn, known) as command:
+            desk = Desk(sacn, "--to", f"1-3=stage-1:{host.port}", f"--to=4=127.0.0.1:{host.port}", command=command)
+            if not host.wait(lambda: host.universes() == [1, 2, 3, 4]):
+                yield f"to the name came {host.universes()}"
+            said = desk.end()[2].splitlines()
+            if said[:2] != [f'desk "Desk" priority 100 universes 1-4,7 to 1-3,4=127.0.0.1:{host.port}', "no --to takes universe 7 of the show"]:
+                yield f"it said {said[:2]}"
+            status, out, err = Desk(sacn, "--to", "stage-2", command=command).end()
+            if status != 2 or out or not err.startswith("sacn: --to stage-2: this machine knows no host stage-2 "):
+                yield f"an unknown name: status {status}, {out!r}, {err!r}"
 
 
 def a_prompt_tells_what_runs(sacn):

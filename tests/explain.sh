@@ -498,7 +498,8 @@ def elsewhere(path):
     r.sent(0, 2, data(B, b"Spare", 9, 0, b"\x40"))
     r.sent(3000, 9, b"z", port=53)
 
-{"events": events, "many": many, "listings": listings, "silent": silent, "pair": pair, "strays": strays, "previews": previews, "unread": unread, "unstamped": unstamped, "links": links, "back": back, "elsewhere": elsewhere, "behind": behind}[sys.argv[1]](sys.argv[2])
+if __name__ == "__main__":
+    {"events": events, "many": many, "listings": listings, "silent": silent, "pair": pair, "strays": strays, "previews": previews, "unread": unread, "unstamped": unstamped, "links": links, "back": back, "elsewhere": elsewhere, "behind": behind}[sys.argv[1]](sys.argv[2])
 P
 for name in events many listings silent pair strays previews unread unstamped links back elsewhere behind; do python3 recordings.py "$name" "$name.pcap" || exit 1; done
 
@@ -777,6 +778,128 @@ verdict "a loss elsewhere hides no source" $? "$said"
 "$sacn" explain events.pcap --setup node.toml --json </dev/null 2>err | grep '"event":"frame"' >out
 cmp -s frames.json out
 verdict "the frames as JSON" $? "$(diff frames.json out | head -n 3 | cut -c 1-120)"
+
+# Where an account could say something else than the node does, or than the file has, each point by itself: of a recording the lines of one pattern. Desk sends levels each second
+# unless it is said otherwise, Spare what is named; the moments are those here, and levels are lost 2500 ms after they came, whatever previews follow (E1.31, 6.7.1).
+python3 - <<'P' || verdict "recordings of one point each" 1
+import struct
+import e131
+from recordings import A, B, data, enhanced, interface, section, simple
+LEVELS, PREVIEW, ENDS = 0, e131.PREVIEW, e131.TERMINATED
+def made(name, *packets):
+    recording = e131.Recording(name + ".pcap")
+    for at, cid, number, options, *priority in sorted(packets):
+        recording.sent(at, 5 if cid == A else 6, data(cid, b"Desk" if cid == A else b"Spare", 1, number, b"\x80", options=options, priority=(priority or [100])[0]))
+    recording.close()
+def desk(seconds): return [(1000 * it, A, it, LEVELS) for it in range(seconds + 1)]
+made("preview-above", *desk(2), (500, B, 0, LEVELS), (700, B, 1, PREVIEW, 150), (900, B, 2, PREVIEW, 50), (1500, B, 3, LEVELS))
+made("ended-preview", *desk(2), (500, B, 0, LEVELS), (700, B, 1, ENDS), (900, B, 2, PREVIEW))
+made("lost-preview", *desk(4), (500, B, 0, LEVELS), (3100, B, 1, PREVIEW))
+made("previews-alone", *desk(4), (500, B, 0, LEVELS), (1500, B, 1, PREVIEW), (2500, B, 2, PREVIEW), (3500, B, 3, PREVIEW))
+made("behind-end", (0, A, 10, ENDS), (20, A, 5, LEVELS))
+made("behind-loss", (0, A, 5, LEVELS), (1000, A, 6, PREVIEW), (2000, A, 7, PREVIEW), (2600, A, 6, LEVELS))
+made("end-first", (0, B, 10, ENDS), (20, A, 0, LEVELS), (40, B, 11, ENDS))
+made("end-lost", (0, A, 0, LEVELS), (2600, A, 1, ENDS))
+made("late", (0, A, 1, LEVELS), (20, A, 3, LEVELS), (40, A, 2, LEVELS))
+def carried(number): return e131.carried(5, data(A, b"Desk", 1, number, b"\x80"))
+def blocks(name, *of_it):
+    with open(name + ".pcap", "wb") as file: file.write(section() + b"".join(of_it))
+# an interface whose clock's moments are so many seconds later than its ticks say (if_tsoffset)
+def later(seconds): return interface(1, struct.pack("<HHqHH", 14, 8, seconds, 0, 0))
+blocks("simple-first", interface(1), simple(carried(0)), enhanced(1000000000, carried(1)), enhanced(1000100000, carried(2)))
+blocks("offset", later(1000), enhanced(1000500000, carried(0)))
+blocks("offsets", later(0), later(900), *(enhanced((1000000 - 900000 * (it % 2) + 100 * it) * 1000, carried(it), it % 2) for it in range(4)))
+blocks("link-alone", interface(147), *(enhanced(1000000000 + it, carried(it)) for it in range(2)))
+cut, newer, twice = (e131.Recording(it + ".pcap") for it in ("cut-alone", "ipv6-alone", "twice"))
+for it in range(3): cut.sent(it, 5, data(A, b"Desk", 1, it, b"\x80"), kept=96)
+for it in range(4): newer.frame(it, bytes(12) + b"\x86\xdd" + b"\x60" + bytes(47))
+for it in range(188): twice.sent(20 * (it // 2), 5, data(A, b"Desk", 1, it // 2, b"\x80"))
+for it in (cut, newer, twice): it.close()
+made("twice-half", (0, A, 1, LEVELS), (0, A, 1, LEVELS), (20, A, 2, LEVELS))
+made("twice-third", (0, A, 1, LEVELS), (0, A, 1, LEVELS), (20, A, 2, LEVELS), (40, A, 3, LEVELS))
+P
+# tells_of NAME PATTERN WORD..: the lines of this pattern that a run of explain prints are those of standard input
+tells_of() {
+  local name=$1 pattern=$2
+  shift 2
+  cat >wanted
+  "$sacn" explain "$@" </dev/null 2>err | grep -E "$pattern" >out
+  cmp -s wanted out
+  verdict "$name" $? "$(diff wanted out | head -n 3)"
+}
+rivals='  (2 sources send|one source alone sends|no source lights)'
+tells_of "a preview at another priority ends no rivalry" "$rivals" preview-above.pcap --each <<E
+     0.500 s  universe     1  2 sources send at the top priority, 100
+E
+tells_of "who ended and is back with previews alone is no rival" "$rivals" ended-preview.pcap --each <<E
+     0.500 s  universe     1  2 sources send at the top priority, 100
+     0.700 s  universe     1  one source alone sends at the top priority, 100
+E
+tells_of "who was lost and is back with previews alone is no rival" "$rivals" lost-preview.pcap --each <<E
+     0.500 s  universe     1  2 sources send at the top priority, 100
+     3.000 s  universe     1  one source alone sends at the top priority, 100
+E
+tells_of "who sends previews alone is no rival from the loss of the levels on" "$rivals" previews-alone.pcap --each <<E
+     0.500 s  universe     1  2 sources send at the top priority, 100
+     3.000 s  universe     1  one source alone sends at the top priority, 100
+E
+tells_of "what lights a port behind a termination isn't discarded" '  by .* on universe |, discarded$' behind-end.pcap --each --setup node.toml <<E
+     0.020 s  port         1  by a packet on universe 1 of $A "Desk"
+E
+tells_of "what lights a port behind lost levels isn't discarded" '  by .* on universe |, discarded$' behind-loss.pcap --each --setup node.toml <<E
+     0.000 s  port         1  by a packet on universe 1 of $A "Desk"
+     2.600 s  port         1  by a packet on universe 1 of $A "Desk"
+E
+tells_of "a first packet that terminates isn't told as a beginning" '  (appears|is back|ends its stream)' end-first.pcap --each <<E
+     0.020 s  universe     1  $A "Desk"  appears at 10.0.0.5:5000, priority 100
+E
+tells_of "a termination behind a loss ends nothing" '  (appears|is back|ends its stream)' end-lost.pcap --each <<E
+     0.000 s  universe     1  $A "Desk"  appears at 10.0.0.5:5000, priority 100
+E
+tells_of "a number that came late after all wasn't skipped" '^ +1 +1 +1 ' late.pcap <<E
+       1        1        1         2         0         1
+E
+tells_of "a simple packet that comes first makes no loss" '  (appears|is back|is lost)' simple-first.pcap --each <<E
+     0.000 s  universe     1  $A "Desk"  appears at 10.0.0.5:5000, priority 100
+E
+TZ=UTC0 tells_of "and is at the moment of the next frame" '  appears' simple-first.pcap --each --clock <<E
+00:16:40.000      0.000 s  universe     1  $A "Desk"  appears at 10.0.0.5:5000, priority 100
+E
+TZ=UTC0 tells_of "the offset of an interface's clock is added" '  appears' offset.pcap --each --clock <<E
+00:33:20.500      0.000 s  universe     1  $A "Desk"  appears at 10.0.0.5:5000, priority 100
+E
+tells_of "two clocks of different offsets are one time" '^ +1 sending|^frames with an' offsets.pcap <<E
+       1 sending       100      0.000      0.300         4         0         0         0         0         0      100  $A "Desk" at 10.0.0.5:5000
+frames with an earlier moment  0
+E
+tables='universe state    priority      first       last     taken   preview     other   skipped      late  repeated   gap ms  source'
+unread="^(frames that|cut short|a link|IPv6|universe state)"
+tells_of "a recording cut by its snap length isn't told as silence" "$unread" cut-alone.pcap <<E
+frames that couldn't be read
+cut short, as by a snap length 3
+$tables
+E
+tells_of "one of an unknown link alone isn't told as silence" "$unread" link-alone.pcap <<E
+frames that couldn't be read
+a link of an unknown type      2
+$tables
+E
+tells_of "one of IPv6 alone isn't told as silence" "$unread" ipv6-alone.pcap <<E
+frames that couldn't be read
+IPv6                           4
+$tables
+E
+tells_of "a recording made at two interfaces is told as one" '^(.* came twice|universe state)' twice.pcap <<E
+94 packets came twice (same source, universe and number), as where two interfaces are heard at once
+$tables
+E
+tells_of "half of the packets twice are such a recording" '^(.* came twice|universe state)' twice-half.pcap <<E
+1 packet came twice (same source, universe and number), as where two interfaces are heard at once
+$tables
+E
+tells_of "a third of them is none" '^(.* came twice|universe state)' twice-third.pcap <<E
+$tables
+E
 
 # 1025 sources and 257 lists: the last of each finds no room.
 "$sacn" explain many.pcap --json </dev/null >out 2>err

@@ -196,6 +196,17 @@ def what_is_no_order_says_why(desk):
     yield from said(desk, "set 0 5", "refused ChannelRange: a channel is 1 to 2048")
 
 
+def an_order_of_all_channels_is_answered_at_once(desk):
+    """The median of twenty such orders: a machine that is busy may let a desk stand still for longer."""
+    took = []
+    for count in range(20):
+        begin = time.monotonic()
+        yield from said(desk, f"all at {count}", f"ok all at {count} %")
+        took.append(time.monotonic() - begin)
+    if sorted(took)[10] > 0.025:
+        yield f"they took {[round(1000 * it) for it in took]} ms"
+
+
 def many_lines_at_once_are_all_answered(desk):
     """Ten thousand orders piped at once, each for all channels."""
     with tempfile.NamedTemporaryFile("w+") as answers:
@@ -218,6 +229,7 @@ LOOKS = [
     universes_end_and_start,
     the_patch_is_listed,
     what_is_no_order_says_why,
+    an_order_of_all_channels_is_answered_at_once,
     many_lines_at_once_are_all_answered,
 ]
 

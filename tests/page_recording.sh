@@ -184,6 +184,38 @@ for universe in 101 119 110 118; do
 done
 ends
 
+# The page has the account of `explain`: on universe 1 a preview at another priority ends no rivalry, on 2 a source that is back with previews alone begins none, on 3 a
+# termination behind a loss ends nothing, and on 5 a number that came late after all wasn't skipped.
+python3 - <<'P'
+import e131
+recording = e131.Recording("account.pcap")
+def sent(at, letter, universe, number, options=0, priority=100):
+    recording.sent(at, 1, e131.data(universe, number, b"\x80", letter * 16, letter, priority, options))
+sent(0, b"A", 3, 0)
+for turn in range(3):
+    for universe in (1, 2): sent(1000 * turn, b"A", universe, turn)
+    if turn == 0:
+        for universe in (1, 2): sent(500, b"B", universe, 0)
+        sent(700, b"B", 1, 1, e131.PREVIEW, 150)
+        sent(700, b"B", 2, 1, e131.TERMINATED)
+        sent(900, b"B", 2, 2, e131.PREVIEW)
+    elif turn == 1: sent(1500, b"B", 1, 2)
+sent(2600, b"A", 3, 1, e131.TERMINATED)
+for at, number in ((2620, 1), (2640, 3), (2660, 2)): sent(at, b"A", 5, number)
+recording.close()
+P
+serves account.pcap
+answers "the state of its end" 200 "$at/state"
+told=$(grep -o '"kind":"rivals","text":"universe [0-9]*' body)
+[ "$told" = '"kind":"rivals","text":"universe 1'$'\n''"kind":"rivals","text":"universe 2' ]
+verdict "rivals are told once where previews come" $? "${told//$'\n'/ }"
+told=$(grep -o '"kind":"\(ended\|lost\)","text":"universe [0-9]*' body)
+[ "$told" = '"kind":"ended","text":"universe 2'$'\n''"kind":"lost","text":"universe 3' ]
+verdict "and no end where nothing was to end" $? "${told//$'\n'/ }"
+grep -qE '"universe":5,[^}]*"live":2,[^}]*"skipped":0,"late":1,' body
+verdict "and no number as skipped that came late" $? "$(grep -o '"universe":5,[^}]*' body | cut -c 1-300)"
+ends
+
 # Two viewers at different moments, over and over: each is given its own.
 serves two.pcap
 wrong=0

@@ -240,6 +240,48 @@ if ! command -v python3 >/dev/null; then
   skips "a terminal" "no python3"
   exit 0
 fi
+
+# The account of a watch is that of `explain`, of packets that all come within a second. On universe 1 a preview at another priority ends no rivalry; on 2 a source that is back with
+# previews alone begins none; on 3 a source whose first packet terminates doesn't appear; on 4 levels behind a termination aren't discarded, whatever their number; and on 5 a number
+# that came late after all wasn't skipped.
+cat >account.py <<'P'
+import socket, sys
+import e131
+s = socket.socket(socket.AF_INET, socket.SOCK_DGRAM)
+def sent(letter, universe, number, options=0, priority=100):
+    s.sendto(e131.data(universe, number, b"\x80", letter * 16, letter, priority, options), ("127.0.0.1", int(sys.argv[1])))
+for universe in (1, 2):
+    for letter in (b"A", b"B"): sent(letter, universe, 0)
+sent(b"B", 1, 1, e131.PREVIEW, 150)
+sent(b"B", 1, 2)
+sent(b"B", 2, 1, e131.TERMINATED)
+sent(b"B", 2, 2, e131.PREVIEW)
+sent(b"B", 3, 0, e131.TERMINATED)
+sent(b"A", 3, 0)
+sent(b"A", 4, 10, e131.TERMINATED)
+sent(b"A", 4, 5)
+for number in (1, 3, 2): sent(b"A", 5, number)
+P
+: >err
+: >out
+{
+  wait_for_line err '^hears' 30
+  python3 account.py "$udp"
+  wait_until is_taken "$udp"
+} | timeout 60 "$sacn" watch --port "$udp" --json >out 2>err
+cat >wanted <<'E'
+"event":"rivals","universe":1,"sources":2,"priority":100
+"event":"rivals","universe":2,"sources":2,"priority":100
+"event":"no_rivals","universe":2,"sources":1,"priority":100
+"event":"appeared","universe":3,"cid":"41
+"event":"out_of_sequence","universe":5,"cid":"41
+"row":"universe","universe":4,"sources":1,"sending":1,"taken":2,"skipped":0,"discarded":0
+"row":"universe","universe":5,"sources":1,"sending":1,"taken":2,"skipped":0,"discarded":1
+E
+grep -oE '"event":"(no_)?rivals",[^}]*|"event":"(appeared","universe":3|out_of_sequence","universe":[0-9]*),"cid":"..|"row":"universe","universe":[45],[^}]*' out >account
+cmp -s wanted account
+verdict "the account of a watch" $? "$(diff wanted account | head -n 5)"
+
 # A terminal of so many columns and rows: hands a run of these words its end, sends packets to it once it has a screen, and writes what it drew.
 cat >terminal.py <<'P'
 import os, pty, select, signal, socket, struct, sys, time, fcntl, termios
