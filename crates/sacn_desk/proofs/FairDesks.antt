@@ -13,7 +13,7 @@ use Rattle.sacn_console.specs.Runs.{core_by, line_by}
 use Rattle.sacn_console.specs.Lines.{Page, Datagram, Packet, Paged, Gave, Accepted, line_after}
 use Rattle.sacn_console.specs.Core.{Core, at, due, due_by, given, after, taken, answer, line_found, page_due, page_by, standing}
 use Rattle.sacn_desk.specs.declared.limits.TheConstants.{MAX_POLLS}
-use Rattle.sacn_desk.specs.DeskSends.{Round, ordered, polled, desk_after, AreQuiet}
+use Rattle.sacn_desk.specs.DeskSends.{Round, commands_in, ordered, polled, desk_after, AreQuiet}
 use Rattle.sacn_desk.specs.Fairness.{most_due, AreShort, IsOfAConsole, AreFair, ShortRoundsAreFair, RoundsAreFair, RoundsOfShowsAreFair}
 use Rattle.sacn_desk.proofs.Fair.{at_given, some_is}
 use Rattle.sacn_desk.proofs.FairRounds.{once}
@@ -28,7 +28,7 @@ at_polled now (suc n) c some = at_given now (due (at now (polled now n c))) (pol
 pub short_fair : ShortRoundsAreFair
 short_fair first [] quiet short = tt
 short_fair first (r ∷ rs) quiet short =
-    let mid = ordered r.now r.orders (desk_after first rs) in
+    let mid = ordered r.now (commands_in r.orders) (desk_after first rs) in
     let none : due (at r.now (polled r.now r.polls mid)) ≡ None = ap due (at_polled r.now r.polls mid quiet.0) ∙ quiet.2 short.0 in
     (λ u. once mid r.now r.polls u none, short_fair first rs quiet.3 short.1)
 
@@ -92,7 +92,7 @@ module _ (n : ℕ) where
   few_after : (first : Core) (rs : List Round) → IsOf first → IsOf (desk_after first rs)
   few_after first [] few = few
   few_after first (r ∷ rs) few =
-      few_polled r.now r.polls (ordered r.now r.orders (desk_after first rs)) (few_ordered r.now r.orders (desk_after first rs) (few_after first rs few))
+      few_polled r.now r.polls (ordered r.now (commands_in r.orders) (desk_after first rs)) (few_ordered r.now (commands_in r.orders) (desk_after first rs) (few_after first rs few))
 
 -- ---- all rounds
 
@@ -120,8 +120,8 @@ ended m now n c few some quiet = by_few (nat_lt n m) refl
 pub rounds_fair : RoundsAreFair
 rounds_fair first [] few quiet = tt
 rounds_fair first (r ∷ rs) few quiet =
-    let mid = ordered r.now r.orders (desk_after first rs) in
-    let small = few_ordered 1024 r.now r.orders (desk_after first rs) (few_after 1024 first rs few) in
+    let mid = ordered r.now (commands_in r.orders) (desk_after first rs) in
+    let small = few_ordered 1024 r.now (commands_in r.orders) (desk_after first rs) (few_after 1024 first rs few) in
     (λ u. once mid r.now r.polls u (ended MAX_POLLS r.now r.polls mid (due_few mid small) quiet.0 quiet.2), rounds_fair first rs few quiet.3)
 
 pub shows_fair : RoundsOfShowsAreFair

@@ -9,7 +9,7 @@ use Rattle.sacn_console.specs.declared.sender.Sender.{Sender}
 use Rattle.sacn_console.specs.Lines.{Datagram, Packet, Paged}
 use Rattle.sacn_console.specs.Core.{Core, at, due, given, after, taken, answer, text}
 use Rattle.sacn_edge.specs.ConsoleSends.{octets_of}
-use Rattle.sacn_desk.specs.DeskSends.{Round, ordered, polled, sends, desk_after}
+use Rattle.sacn_desk.specs.DeskSends.{Round, commands_in, ordered, polled, sends, desk_after}
 use Rattle.sacn_desk.specs.Fairness.{has_due, as_list, gives, desk_gives, is_packet_on, packets_on, SendsAreGiven, EachAtMostOnce, EachOnce, EachDueIsGiven, DeskSendsAreGiven}
 use Rattle.sacn_desk.proofs.Fair.{one_if, at_given, equal, quiet, kept}
 
@@ -77,8 +77,8 @@ sender_ordered now (k ∷ ks) c = sender_taken k (answer k (at now (ordered now 
 sender_after : (first : Core) (rs : List Round) → (desk_after first rs).sender ≡ first.sender
 sender_after first [] = refl
 sender_after first (r ∷ rs) =
-    sender_polled r.now r.polls (ordered r.now r.orders (desk_after first rs))
-    ∙ sender_ordered r.now r.orders (desk_after first rs)
+    sender_polled r.now r.polls (ordered r.now (commands_in r.orders) (desk_after first rs))
+    ∙ sender_ordered r.now (commands_in r.orders) (desk_after first rs)
     ∙ sender_after first rs
 
 octets_listed : (s : Sender) (d : Option Datagram) → octets_of s d ≡ map (text s) (as_list d)
@@ -97,7 +97,7 @@ sends_given c now (suc n) =
 pub desk_sends_given : DeskSendsAreGiven
 desk_sends_given first [] = refl
 desk_sends_given first (r ∷ rs) =
-    let mid = ordered r.now r.orders (desk_after first rs) in
+    let mid = ordered r.now (commands_in r.orders) (desk_after first rs) in
     ap (λ os. os ++ sends r.now r.polls mid) (desk_sends_given first rs)
-    ∙ ap (λ os. map (text first.sender) (desk_gives first rs) ++ os) (sends_given mid r.now r.polls ∙ ap (λ s. map (text s) (gives r.now r.polls mid)) (sender_ordered r.now r.orders (desk_after first rs) ∙ sender_after first rs))
+    ∙ ap (λ os. map (text first.sender) (desk_gives first rs) ++ os) (sends_given mid r.now r.polls ∙ ap (λ s. map (text s) (gives r.now r.polls mid)) (sender_ordered r.now (commands_in r.orders) (desk_after first rs) ∙ sender_after first rs))
     ∙ sym (map-append (text first.sender) (desk_gives first rs) (gives r.now r.polls mid))

@@ -1,4 +1,5 @@
 mod Rounding
+mod WholeOrders
 mod Fair
 mod FairRounds
 mod FairEnds

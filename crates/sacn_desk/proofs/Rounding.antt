@@ -2,7 +2,6 @@
 use Rattle.std.proofs.Common.{◌≡◌, ℕ, suc, true≢false, ◌+◌, ◌<◌, ◌≤◌, Bool, false, cond, is_some, List, [], ◌∷◌, ◌++◌, length, refl, sym, ap, subst, ◌∙◌, arith, append_assoc, Option, Some, None}
 use Rattle.std.proofs.lemmas.Bool.{ne_eqb, eq-eqb}
 use Rattle.std.proofs.lemmas.List.{map-append}
-use Rattle.sacn_console.specs.declared.command.Command.{Command}
 use Rattle.sacn_console.specs.Lines.{Datagram}
 use Rattle.sacn_console.specs.Core.{Core, at, after_poll, given as given_by, due}
 use Rattle.sacn_edge.specs.declared.report.ConsoleReport.{ConsoleReport}
@@ -11,14 +10,15 @@ use Rattle.sacn_edge.specs.ConsoleSends.{Handed, datagrams, sent_at, handed_of, 
 use Rattle.sacn_edge.proofs.NodeLemmas.{Extends-append}
 use Rattle.sacn_edge.proofs.ConsoleLemmas.{datagrams_more, counted_more}
 use Rattle.sacn_desk.specs.declared.limits.TheConstants.{MAX_POLLS}
-use Rattle.sacn_desk.specs.DeskSends.{Round, Talk, Asked, ordered, polled, sends, given, asked_last, refusals, desk_after, desk_sends, desk_refusals, round_talk, talk, AreQuiet, EndAsked, AllGoOn, IsRun}
+use Rattle.sacn_desk.specs.declared.orders.GivenOrder.{GivenOrder}
+use Rattle.sacn_desk.specs.DeskSends.{Round, Talk, Asked, commands_in, ordered, polled, sends, given, asked_last, refusals, desk_after, desk_sends, desk_refusals, round_talk, talk, AreQuiet, EndAsked, AllGoOn, IsRun}
 
 -- ---- orders
 
-pub asked_once : (now : ℕ) (ks : List Command) → length ks < 4096 → asked_last now ks ≡ Asked now None ∷ []
+pub asked_once : (now : ℕ) (ks : List GivenOrder) → length ks < 4096 → asked_last now ks ≡ Asked now None ∷ []
 asked_once now ks few = ap (λ b. cond b [] (Asked now None ∷ [])) (ne_eqb (length ks) 4096 (λ same. omega (arith, few, same)))
 
-pub asked_enough : (now : ℕ) (ks : List Command) → length ks ≡ 4096 → asked_last now ks ≡ []
+pub asked_enough : (now : ℕ) (ks : List GivenOrder) → length ks ≡ 4096 → asked_last now ks ≡ []
 asked_enough now ks many = ap (λ b. cond b [] (Asked now None ∷ [])) (eq-eqb (length ks) 4096 many)
 
 -- ---- polls
@@ -57,12 +57,12 @@ module _ (now n : ℕ) (first core new : Core) (was : core ≡ polled now n firs
 -- ---- rounds
 
 -- one round more
-module _ (first core mid new : Core) (rs : List Round) (now n : ℕ) (ks : List Command) (ends : Bool) (was : core ≡ desk_after first rs) (gave : mid ≡ ordered now ks core) (polls : new ≡ polled now n mid) where
+module _ (first core mid new : Core) (rs : List Round) (now n : ℕ) (os : List GivenOrder) (ends : Bool) (was : core ≡ desk_after first rs) (gave : mid ≡ ordered now (commands_in os) core) (polls : new ≡ polled now n mid) where
   abbrev pub round : Round
-  round = record { now = now; orders = ks; polls = n; ends = ends }
+  round = record { now = now; orders = os; polls = n; ends = ends }
 
-  mid_is : mid ≡ ordered now ks (desk_after first rs)
-  mid_is = gave ∙ ap (ordered now ks) was
+  mid_is : mid ≡ ordered now (commands_in os) (desk_after first rs)
+  mid_is = gave ∙ ap (ordered now (commands_in os)) was
 
   pub core_round : new ≡ desk_after first (round ∷ rs)
   core_round = polls ∙ ap (polled now n) mid_is
@@ -70,17 +70,17 @@ module _ (first core mid new : Core) (rs : List Round) (now n : ℕ) (ks : List 
   pub sends_round : (hs ms : Handed) → datagrams hs ≡ desk_sends first rs → datagrams ms ≡ sends now n mid → datagrams (hs ++ ms) ≡ desk_sends first (round ∷ rs)
   sends_round hs ms sofar more =
       map-append (λ (h : List ℕ × Bool). h.0) hs ms
-      ∙ ap (λ os. os ++ datagrams ms) sofar
-      ∙ ap (λ os. desk_sends first rs ++ os) (more ∙ ap (sends now n) mid_is)
+      ∙ ap (λ ds. ds ++ datagrams ms) sofar
+      ∙ ap (λ ds. desk_sends first rs ++ ds) (more ∙ ap (sends now n) mid_is)
 
-  pub talk_round : (a b c d : Option (List Talk)) → Extends a b (talk first rs) → Extends b c (given now ks core ++ asked_last now ks) → Extends c d (EndAsked ends ∷ []) → Extends a d (talk first (round ∷ rs))
+  pub talk_round : (a b c d : Option (List Talk)) → Extends a b (talk first rs) → Extends b c (given now os core ++ asked_last now os) → Extends c d (EndAsked ends ∷ []) → Extends a d (talk first (round ∷ rs))
   talk_round a b c d sofar more end =
       Extends-append a b d (talk first rs) (round_talk round (desk_after first rs)) sofar
-      (subst (λ (e : Core). Extends b d (round_talk round e)) was (Extends-append b c d (given now ks core ++ asked_last now ks) (EndAsked ends ∷ []) more end))
+      (subst (λ (e : Core). Extends b d (round_talk round e)) was (Extends-append b c d (given now os core ++ asked_last now os) (EndAsked ends ∷ []) more end))
 
-  pub refused_round : (refused more : ℕ) → refused ≡ desk_refusals first rs → more ≡ refusals now ks core → refused + more ≡ desk_refusals first (round ∷ rs)
+  pub refused_round : (refused more : ℕ) → refused ≡ desk_refusals first rs → more ≡ refusals now (commands_in os) core → refused + more ≡ desk_refusals first (round ∷ rs)
   refused_round refused more sofar is =
-      ap (λ n. n + more) sofar ∙ ap (λ m. desk_refusals first rs + m) (is ∙ ap (refusals now ks) was)
+      ap (λ n. n + more) sofar ∙ ap (λ m. desk_refusals first rs + m) (is ∙ ap (refusals now (commands_in os)) was)
 
   pub quiet_round : AreQuiet first rs → 0 < n → n ≤ MAX_POLLS → (n < MAX_POLLS → due new ≡ None) → AreQuiet first (round ∷ rs)
   quiet_round sofar some most quiet = (some, most, λ few. subst (λ (d : Core). due d ≡ None) core_round (quiet few), sofar)

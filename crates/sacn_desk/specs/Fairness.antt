@@ -10,7 +10,7 @@ use Rattle.sacn_console.specs.Due.{life_of}
 use Rattle.sacn_console.specs.Runs.{core_by}
 use Rattle.sacn_console.specs.declared.limits.TheConstants.{CONSOLE_UNIVERSES}
 use Rattle.sacn_desk.specs.declared.limits.TheConstants.{MAX_POLLS}
-use Rattle.sacn_desk.specs.DeskSends.{Round, ordered, polled, sends, desk_after, desk_sends, AreQuiet}
+use Rattle.sacn_desk.specs.DeskSends.{Round, commands_in, ordered, polled, sends, desk_after, desk_sends, AreQuiet}
 
 -- ---- what is due
 
@@ -35,7 +35,7 @@ gives now (suc n) c = gives now n c ++ as_list (due (at now (polled now n c)))
 
 abbrev pub desk_gives : Core → List Round → List Datagram
 desk_gives first [] = []
-desk_gives first (r ∷ rs) = desk_gives first rs ++ gives r.now r.polls (ordered r.now r.orders (desk_after first rs))
+desk_gives first (r ∷ rs) = desk_gives first rs ++ gives r.now r.polls (ordered r.now (commands_in r.orders) (desk_after first rs))
 
 abbrev pub is_packet_on : ℕ → Datagram → Bool
 is_packet_on u (Packet d) = d.universe == u
@@ -89,7 +89,7 @@ IsFair r c = (u : ℕ) → packets_on u (gives r.now r.polls c) ≡ (if is_due r
 
 abbrev pub AreFair : Core → List Round → Type 0
 AreFair first [] = ⊤
-AreFair first (r ∷ rs) = IsFair r (ordered r.now r.orders (desk_after first rs)) × AreFair first rs
+AreFair first (r ∷ rs) = IsFair r (ordered r.now (commands_in r.orders) (desk_after first rs)) × AreFair first rs
 
 -- rounds of a desk are fair where none polls the most times
 abbrev pub ShortRoundsAreFair : Type 0

@@ -1,48 +1,80 @@
 //! The desk's loop.
 ghost use Rattle.std.specs.Prelude.{◌≡◌, ◌≤◌, ◌<◌, ◌+◌, ◌-◌, ◌^◌, ◌++◌, ◌∷◌, [], List, ℕ, Bool, length, take, Some, None, is_ok, is_some, if◌then◌else◌};
 ghost use Rattle.sacn_packets.specs.PacketReading.{reading_packet};
-ghost use Rattle.sacn_console.specs.Core.{due, at, answer, after_command, after_poll};
-ghost use Rattle.sacn_console.specs.declared.command.Command.{Command as Order};
+ghost use Rattle.sacn_console.specs.Core.{due, at, after_poll};
 ghost use Rattle.sacn_edge.specs.Additions.{Extends};
 ghost use Rattle.sacn_edge.specs.Hearings.{Hands};
 ghost use Rattle.sacn_edge.specs.ConsoleSends.{Handed, datagrams, handed_of, sends_report, sent_at};
 ghost use Rattle.sacn_desk.specs.Groups.{universe_read};
 ghost use Rattle.sacn_desk.specs.declared.limits.TheConstants.{IDLE_WAIT, MAX_POLLS, MAX_ROUNDS, MAX_ORDERS};
-ghost use Rattle.sacn_desk.specs.DeskSends.{Round, Answered, ordered, polled, sends, given, asked_last, refusals, desk_after, desk_sends, desk_refusals, talk, readings, AreQuiet, IsRun};
+ghost use Rattle.sacn_desk.specs.declared.orders.GivenOrder.{GivenOrder};
+ghost use Rattle.sacn_desk.specs.declared.orders.GivenOrder.TheVariants.{Levels};
+ghost use Rattle.sacn_desk.specs.DeskSends.{Round, Answered, commands_given, commands_in, answered, ordered, polled, sends, given, asked_last, refusals, desk_after, desk_sends, desk_refusals, talk, readings, AreQuiet, IsRun};
 
 use crate::desk_datagram::DeskDatagram;
 use crate::desk_link::DeskLink;
 use crate::limits::{IDLE_WAIT, MAX_ORDERS, MAX_POLLS};
-use crate::orders::Orders;
+use crate::orders::{GivenOrder, Orders};
 use sacn_console::limits::MAX_DATAGRAM;
-use sacn_console::{Command, ConsoleCore, DueDatagram};
+use sacn_console::{ConsoleCore, ConsoleFault, DueDatagram};
 use sacn_edge::{Clock, ConsoleReport, count_send};
+use sacn_orders::{LevelCommands, Selection};
 
-/// Gives the core an order, and its answer to where the order came from. Returns how many were refused, 0 or 1.
-fn give<O: Orders>(orders: &mut O, core: &mut ConsoleCore, now: u64, command: Command) -> u64
+/// Gives the core each command of an order that sets levels, in their turn. Returns the first refusal, of which there is none.
+fn set_levels(
+    core: &mut ConsoleCore,
+    now: u64,
+    selection: Selection,
+    level: u16,
+) -> Result<(), ConsoleFault>
+    ensures core { core.new ≡ ordered now (commands_given (Levels selection level)) core.old }
+    ensures answer { result ≡ answered now (commands_given (Levels selection level)) core.old }
+{
+    let mut commands = LevelCommands::of(selection, level);
+    let mut answer = Ok(());
+    while let Some(command) = commands.next() {
+        answer = answer.and(core.command(now, command));
+    }
+    answer
+}
+
+/// Gives the core all commands of an order.
+fn obey(core: &mut ConsoleCore, now: u64, order: GivenOrder) -> Result<(), ConsoleFault>
+    ensures core { core.new ≡ ordered now (commands_given order) core.old }
+    ensures answer { result ≡ answered now (commands_given order) core.old }
+{
+    match order {
+        GivenOrder::Plain(command) => core.command(now, command),
+        GivenOrder::Levels(selection, level) => set_levels(core, now, selection, level),
+    }
+}
+
+/// Gives the core an order, and its answer to where the order came from. Returns how many commands were refused, 0 or 1.
+fn give<O: Orders>(orders: &mut O, core: &mut ConsoleCore, now: u64, order: GivenOrder) -> u64
     ensures talk { Extends (O.told orders.old) (O.told orders.new)
-        (Answered (answer command (at now core.old)) ∷ []) }
-    ensures core { core.new ≡ after_command now command core.old }
-    ensures refused { result ≡ (if is_ok (answer command (at now core.old)) then 0 else 1) }
+        (Answered (answered now (commands_given order) core.old) ∷ []) }
+    ensures core { core.new ≡ ordered now (commands_given order) core.old }
+    ensures refused { result ≡ refusals now (commands_given order) core.old }
     ensures one { result ≤ 1 }
 {
-    let answer = core.command(now, command);
+    let answer = obey(core, now, order);
     orders.take_answer(answer);
     if answer.is_ok() { 0 } else { 1 }
 }
 
-/// Gives the core the orders that are there, or as many as a round takes. Returns how many it refused.
+/// Gives the core the orders that are there, each as a whole, or as many as a round takes. Returns how many it refused.
 fn order<O: Orders>(orders: &mut O, core: &mut ConsoleCore, now: u64) -> u64
-    ensures given { (ks : List Order) × (length ks ≤ MAX_ORDERS) × Extends
-        (O.told orders.old) (O.told orders.new) (given now ks core.old ++ asked_last now ks)
-        × (core.new ≡ ordered now ks core.old) × (result ≡ refusals now ks core.old) }
+    ensures given { (os : List GivenOrder) × (length os ≤ MAX_ORDERS) × Extends
+        (O.told orders.old) (O.told orders.new) (given now os core.old ++ asked_last now os)
+        × (core.new ≡ ordered now (commands_in os) core.old)
+        × (result ≡ refusals now (commands_in os) core.old) }
     ensures few { result ≤ MAX_ORDERS }
 {
     let mut refused = 0;
     for _count in 0..MAX_ORDERS {
         match orders.next(now) {
             None => return refused,
-            Some(command) => refused += give(orders, core, now, command),
+            Some(order) => refused += give(orders, core, now, order),
         }
     }
     refused

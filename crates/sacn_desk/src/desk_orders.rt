@@ -1,17 +1,15 @@
 //! Orders that are typed or piped on standard input, and those of a script.
-use crate::limits::MAX_ORDERS;
-use crate::orders::Orders;
+use crate::limits::ENOUGH_COMMANDS;
+use crate::orders::{GivenOrder, Orders};
 use crate::postbox::Postbox;
 use crate::prompt::{Fading, Prompt};
 use crate::show_lists::ShowLists;
 use crate::status::have_stopped;
 use sacn_console::limits::TERMINATIONS;
 use sacn_console::{Command, ConsoleCore, ConsoleFault, Show};
-use sacn_cues::MAX_CHANNELS;
 use sacn_edge::{Clock, ConsoleReport};
 use sacn_machine::sys::{NO_DESCRIPTOR, STDIN, wait_readable};
 use sacn_machine::{InputState, Outputs, RigClock, TypedInput};
-use sacn_orders::LevelCommands;
 use std::alloc::{AllocError, Global};
 use std::io::Write;
 use std::rt::Clock as MachineClock;
@@ -40,7 +38,7 @@ CHANNELS are as 1, 1 thru 10, 1 + 5 + 9, 1 thru 10 - 4, or all, of 1 to 2048; PE
 enum Source {
     Script,
     Typed(Command),
-    /// An order that sets levels: its answer comes behind the last one of its commands.
+    /// An order that sets levels.
     Levels,
     /// What universes are told, one after another.
     Told,
@@ -112,14 +110,11 @@ pub struct DeskOrders<'a, R, O> {
     ahead: Option<InputState>,
     // An order waits for universes that are ending.
     is_waiting: bool,
-    // The commands of an order that sets levels, and why one of them was refused.
-    levels: Option<LevelCommands>,
-    refusal: Option<ConsoleFault>,
     // A command that a wish came to.
     command: Option<Command>,
     // What is answered where the order is taken.
     answer: String,
-    // The commands since what was due was sent.
+    // The commands since what was due was sent, at most.
     commands: usize,
     // How many packets a desk that stands by keeps back, which are counted as sent.
     kept: u64,
@@ -161,8 +156,6 @@ impl<'a, R: MachineClock, O: Write> DeskOrders<'a, R, O> {
             held_until: 0,
             ahead: None,
             is_waiting: false,
-            levels: None,
-            refusal: None,
             command: None,
             answer: String::new(alloc),
             commands: 0,
@@ -203,7 +196,7 @@ impl<'a, R: MachineClock, O: Write> DeskOrders<'a, R, O> {
         }
     }
 
-    fn next_typed(&mut self, now: u64) -> Option<Command> {
+    fn next_typed(&mut self, now: u64) -> Option<GivenOrder> {
         for _ in 0..MAX_LINES {
             if self.wish.is_some() || self.is_closing() || self.is_full() {
                 return None;
@@ -211,7 +204,7 @@ impl<'a, R: MachineClock, O: Write> DeskOrders<'a, R, O> {
             match self.next_input() {
                 InputState::Nothing => return self.next_posted(),
                 InputState::Line => match self.take_line() {
-                    Some(command) => return Some(command),
+                    Some(order) => return Some(order),
                     None => {}
                 },
                 InputState::OutOfMemory => {
@@ -255,26 +248,23 @@ impl<'a, R: MachineClock, O: Write> DeskOrders<'a, R, O> {
         self.ends_with_script && self.next_line >= self.script.len()
     }
 
-    /// Whether an order for each channel finds no room any more before what is due is sent.
+    /// Whether what is due is sent before a further line is looked at.
     fn is_full(&self) -> bool {
-        self.commands > MAX_ORDERS - MAX_CHANNELS as usize - 1
+        self.commands >= ENOUGH_COMMANDS
     }
 
-    fn next_order(&mut self, now: u64) -> Option<Command> {
-        if let Some(command) = self.next_level() {
-            return Some(command);
-        }
+    fn next_order(&mut self, now: u64) -> Option<GivenOrder> {
         if let Some(command) = self.command.take() {
             return self.typed(command);
         }
         if let Some(command) = self.next_told() {
-            return Some(command);
+            return Some(GivenOrder::Plain(command));
         }
         if self.is_closing() {
             return None;
         }
         if let Some(command) = self.next_scripted(now) {
-            return Some(command);
+            return Some(GivenOrder::Plain(command));
         }
         if self.script_is_over() {
             self.close();
@@ -333,11 +323,13 @@ impl<'a, R: MachineClock, O: Write> Orders for DeskOrders<'a, R, O> {
         wait_readable(input, NO_DESCRIPTOR, self.posting(), millis);
     }
 
-    fn next(&mut self, now: u64) -> Option<Command> {
+    fn next(&mut self, now: u64) -> Option<GivenOrder> {
         let next = self.next_order(now);
-        if let Some(command) = next {
-            self.commands = self.commands.saturating_add(1);
-            self.fading.give(command, now);
+        if let Some(order) = &next {
+            self.commands = self.commands.saturating_add(order.commands_at_most());
+            if let GivenOrder::Plain(command) = order {
+                self.fading.give(*command, now);
+            }
         }
         next
     }
@@ -352,11 +344,10 @@ impl<'a, R: MachineClock, O: Write> Orders for DeskOrders<'a, R, O> {
                 Ok(()) => self.say_done(command),
                 Err(fault) => self.say_refusal(command, fault),
             },
-            Source::Levels => {
-                if let (Err(fault), None) = (answer, self.refusal) {
-                    self.refusal = Some(fault);
-                }
-            }
+            Source::Levels => match answer {
+                Ok(()) => self.say_taken(),
+                Err(fault) => self.say_refusal(Command::SetLevel(0, 0), fault),
+            },
             Source::Told => {}
         }
     }

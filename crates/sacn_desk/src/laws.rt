@@ -5,6 +5,7 @@
 //! nothing is due after the most polls either. So in each round every universe that is due at its reading is sent,
 //! once, and no other is.
 ghost use Rattle.sacn_desk.specs.Fairness.{DeskSendsAreGiven, EachAtMostOnce, EachDueIsGiven, EachOnce, EachReadingEnds, RoundsAreFair, RoundsOfShowsAreFair, SendsAreGiven, ShortRoundsAreFair};
+ghost use Rattle.sacn_desk.specs.DeskSends.{LevelsAreTaken};
 ghost use Rattle.sacn_desk.specs.Openings.{FirstPacketsAreTaken};
 
 /// Polls at one reading give a universe at most one packet, and none where it isn't due at the reading.
@@ -44,4 +45,9 @@ pub fn rounds_are_fair()
 /// a new life sends, behind the copy that opens the stream.
 pub fn first_packets_are_taken()
     ensures { FirstPacketsAreTaken }
+{}
+
+/// An order that sets levels is taken as a whole: none of its commands is refused, whatever the core.
+pub fn levels_are_taken()
+    ensures { LevelsAreTaken }
 {}

@@ -31,7 +31,7 @@ pub use desk_orders::{DeskOrders, Plan};
 pub use desk_sender::{DeskSender, DeskSockets, Origin};
 pub use destinations::{DISCOVERY_UNIVERSE, Destination, Destinations, MAX_HOSTS, UniverseRange};
 pub use opening::Opening;
-pub use orders::Orders;
+pub use orders::{GivenOrder, Orders};
 pub use postbox::{
     DeskState, MAX_POSTED, MAX_POSTED_ANSWER, MAX_POSTED_OCTETS, PostFault, Postbox, PostedAnswer,
     PostedWriter,

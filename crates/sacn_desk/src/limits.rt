@@ -1,8 +1,10 @@
 //! The numbers that bound a desk's loop. Times are milliseconds.
 
-/// The most commands that a desk takes in one round; what is left waits for the next one. An order that sets each channel goes into one
-/// round.
+/// The most orders that a desk takes in one round; what is left waits for the next one.
 pub const MAX_ORDERS: usize = 4096;
+
+/// How many commands are enough for a round: what is typed or posted behind them waits for the next one.
+pub const ENOUGH_COMMANDS: usize = 2048;
 
 /// The most polls of one round of a desk. A console of 1024 universes has little more than a thousand datagrams due at one reading.
 pub const MAX_POLLS: u64 = 1 << 20;

@@ -2,8 +2,8 @@
 
 use crate::callers::Desk;
 use crate::server::DeskPage;
-use sacn_console::{Command, ConsoleCore, ConsoleFault, Show};
-use sacn_desk::{Orders, Postbox};
+use sacn_console::{ConsoleCore, ConsoleFault, Show};
+use sacn_desk::{GivenOrder, Orders, Postbox};
 use sacn_edge::ConsoleReport;
 use std::alloc::Global;
 use std::cell::RefCell;
@@ -88,7 +88,7 @@ impl<'p, O: Orders> Orders for PagedOrders<'p, O> {
         self.orders.wait(until.min(self.served.wakes()));
     }
 
-    fn next(&mut self, now: u64) -> Option<Command> {
+    fn next(&mut self, now: u64) -> Option<GivenOrder> {
         self.now = now;
         self.orders.next(now)
     }

@@ -5,7 +5,7 @@ use Rattle.sacn_console.specs.declared.command.Command.{Command}
 use Rattle.sacn_console.specs.Core.{Core, at, after_command, after_poll, answer}
 use Rattle.sacn_console.specs.Runs.{Call, Order, Poll}
 use Rattle.sacn_edge.specs.ConsoleSends.{sent_at}
-use Rattle.sacn_desk.specs.DeskSends.{Round, ordered, polled, desk_after, sends, desk_sends, refusals, desk_refusals}
+use Rattle.sacn_desk.specs.DeskSends.{Round, commands_in, ordered, polled, desk_after, sends, desk_sends, refusals, desk_refusals}
 use Rattle.sacn_runs.specs.DeskRuns.{order_calls, poll_calls, desk_calls}
 use Rattle.sacn_runs.proofs.Requests.{over, gave, refused_count, over-append, gave-append, refused-append}
 
@@ -65,30 +65,30 @@ polls_refused now (suc n) c = calls_refused (poll_calls now n) (Poll now ∷ [])
 
 module _ (r : Round) where
   abbrev its_orders : List Call
-  its_orders = order_calls r.now r.orders
+  its_orders = order_calls r.now (commands_in r.orders)
 
   abbrev its_polls : List Call
   its_polls = poll_calls r.now r.polls
 
-  round_over : (c : Core) → over (map Some (its_orders ++ its_polls)) c ≡ polled r.now r.polls (ordered r.now r.orders c)
+  round_over : (c : Core) → over (map Some (its_orders ++ its_polls)) c ≡ polled r.now r.polls (ordered r.now (commands_in r.orders) c)
   round_over c =
       after_calls its_orders its_polls c
-      ∙ ap (over (map Some its_polls)) (orders_over r.now r.orders c)
-      ∙ polls_over r.now r.polls (ordered r.now r.orders c)
+      ∙ ap (over (map Some its_polls)) (orders_over r.now (commands_in r.orders) c)
+      ∙ polls_over r.now r.polls (ordered r.now (commands_in r.orders) c)
 
-  round_gave : (c : Core) → gave (map Some (its_orders ++ its_polls)) c ≡ sends r.now r.polls (ordered r.now r.orders c)
+  round_gave : (c : Core) → gave (map Some (its_orders ++ its_polls)) c ≡ sends r.now r.polls (ordered r.now (commands_in r.orders) c)
   round_gave c =
       calls_gave its_orders its_polls c
-      ∙ ap (λ os. os ++ gave (map Some its_polls) (over (map Some its_orders) c)) (orders_gave r.now r.orders c)
-      ∙ ap (gave (map Some its_polls)) (orders_over r.now r.orders c)
-      ∙ polls_gave r.now r.polls (ordered r.now r.orders c)
+      ∙ ap (λ os. os ++ gave (map Some its_polls) (over (map Some its_orders) c)) (orders_gave r.now (commands_in r.orders) c)
+      ∙ ap (gave (map Some its_polls)) (orders_over r.now (commands_in r.orders) c)
+      ∙ polls_gave r.now r.polls (ordered r.now (commands_in r.orders) c)
 
-  round_refused : (c : Core) → refused_count (map Some (its_orders ++ its_polls)) c ≡ refusals r.now r.orders c
+  round_refused : (c : Core) → refused_count (map Some (its_orders ++ its_polls)) c ≡ refusals r.now (commands_in r.orders) c
   round_refused c =
       calls_refused its_orders its_polls c
-      ∙ ap (λ n. n + refused_count (map Some its_polls) (over (map Some its_orders) c)) (orders_refused r.now r.orders c)
-      ∙ ap (λ n. refusals r.now r.orders c + n) (polls_refused r.now r.polls (over (map Some its_orders) c))
-      ∙ plus_none (refusals r.now r.orders c)
+      ∙ ap (λ n. n + refused_count (map Some its_polls) (over (map Some its_orders) c)) (orders_refused r.now (commands_in r.orders) c)
+      ∙ ap (λ n. refusals r.now (commands_in r.orders) c + n) (polls_refused r.now r.polls (over (map Some its_orders) c))
+      ∙ plus_none (refusals r.now (commands_in r.orders) c)
 
 -- ---- the rounds of a desk
 

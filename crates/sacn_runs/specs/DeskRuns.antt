@@ -5,7 +5,7 @@ use Rattle.sacn_console.specs.Runs.{Call, Order, Poll}
 use Rattle.sacn_node.specs.Setup.{Port}
 use Rattle.sacn_schedule.specs.Cids.{Desk}
 use Rattle.sacn_schedule.specs.declared.event.Event.{Event}
-use Rattle.sacn_desk.specs.DeskSends.{Round, desk_after, desk_sends, desk_refusals}
+use Rattle.sacn_desk.specs.DeskSends.{Round, commands_in, desk_after, desk_sends, desk_refusals}
 use Rattle.sacn_world.specs.declared.answer.Answer.{Answer}
 use Rattle.sacn_world.specs.declared.console.Console.{Console}
 use Rattle.sacn_world.specs.Worlds.{World, new_console, Apart}
@@ -26,7 +26,7 @@ poll_calls now (suc n) = poll_calls now n ++ Poll now ∷ []
 -- a round gives its orders and then polls, all at its reading
 abbrev pub desk_calls : List Round → List Call
 desk_calls [] = []
-desk_calls (r ∷ rs) = desk_calls rs ++ (order_calls r.now r.orders ++ poll_calls r.now r.polls)
+desk_calls (r ∷ rs) = desk_calls rs ++ (order_calls r.now (commands_in r.orders) ++ poll_calls r.now r.polls)
 
 -- ---- the law
 

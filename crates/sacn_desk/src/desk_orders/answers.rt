@@ -28,7 +28,6 @@ impl<'a, R: MachineClock, O: Write> DeskOrders<'a, R, O> {
     // Whether an order is in work, or a line waits for that.
     fn is_busy(&self) -> bool {
         self.wish.is_some()
-            || self.levels.is_some()
             || self.command.is_some()
             || self.ahead.is_some()
             || self.told.has_more()

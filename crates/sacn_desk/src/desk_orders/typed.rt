@@ -3,12 +3,13 @@ use super::wishes::Wish;
 use super::{DeskOrders, Source};
 use crate::desk_line::{DeskLine, line_said};
 use crate::order_answer::{push_answer, push_levels, push_master};
+use crate::orders::GivenOrder;
 use crate::postbox::{DeskState, Postbox, PostedLine};
 use crate::show_lists::PatchPlace;
 use sacn_console::{Command, ConsoleCore};
 use sacn_edge::Clock;
 use sacn_machine::sys::NO_DESCRIPTOR;
-use sacn_orders::{LevelCommands, Order, Selection};
+use sacn_orders::{Order, Selection};
 use std::io::{self, Write};
 use std::os::fd::RawFd;
 use std::rt::Clock as MachineClock;
@@ -36,11 +37,11 @@ fn ends_universe(order: &Order) -> bool {
 }
 
 impl<'a, R: MachineClock, O: Write> DeskOrders<'a, R, O> {
-    /// The first command of an order, where it has one.
-    pub(super) fn begin(&mut self, order: Order) -> Option<Command> {
+    /// What an order gives the console, where it gives it something.
+    pub(super) fn begin(&mut self, order: Order) -> Option<GivenOrder> {
         self.answer.clear();
         match order {
-            Order::Levels(selection, level) => return self.begin_levels(selection, level),
+            Order::Levels(selection, level) => return Some(self.levels(selection, level)),
             Order::Master(level) => {
                 if push_master(&mut self.answer, level).is_err() {
                     self.answer.clear();
@@ -65,37 +66,18 @@ impl<'a, R: MachineClock, O: Write> DeskOrders<'a, R, O> {
         self.hold();
     }
 
-    pub(super) fn typed(&mut self, command: Command) -> Option<Command> {
+    pub(super) fn typed(&mut self, command: Command) -> Option<GivenOrder> {
         self.source = Source::Typed(command);
-        Some(command)
+        Some(GivenOrder::Plain(command))
     }
 
-    fn begin_levels(&mut self, selection: Selection, level: u16) -> Option<Command> {
+    fn levels(&mut self, selection: Selection, level: u16) -> GivenOrder {
         let lists = &self.lists;
         if push_levels(&mut self.answer, self.alloc, &selection, level, lists).is_err() {
             self.answer.clear();
         }
-        self.refusal = None;
-        self.levels = Some(LevelCommands::of(selection, level));
-        self.next_level()
-    }
-
-    /// The next command of the order that sets levels; behind the last one its answer is said.
-    pub(super) fn next_level(&mut self) -> Option<Command> {
-        let next = match &mut self.levels {
-            Some(levels) => levels.next(),
-            None => return None,
-        };
-        if next.is_some() {
-            self.source = Source::Levels;
-            return next;
-        }
-        self.levels = None;
-        match self.refusal {
-            Some(fault) => self.say_refusal(Command::SetLevel(0, 0), fault),
-            None => self.say_taken(),
-        }
-        None
+        self.source = Source::Levels;
+        GivenOrder::Levels(selection, level)
     }
 }
 
@@ -115,7 +97,7 @@ impl<'a, R: MachineClock, O: Write> DeskOrders<'a, R, O> {
     }
 
     /// The order of the line that is there; None where it is something else, which is then done.
-    pub(super) fn take_line(&mut self) -> Option<Command> {
+    pub(super) fn take_line(&mut self) -> Option<GivenOrder> {
         if let Some(postbox) = self.posted {
             postbox.end_answer();
         }
@@ -125,7 +107,7 @@ impl<'a, R: MachineClock, O: Write> DeskOrders<'a, R, O> {
         self.take_said(said)
     }
 
-    fn take_said(&mut self, said: DeskLine) -> Option<Command> {
+    fn take_said(&mut self, said: DeskLine) -> Option<GivenOrder> {
         match said {
             DeskLine::Order(order) => return self.begin(order),
             DeskLine::Nothing => {}
@@ -141,7 +123,7 @@ impl<'a, R: MachineClock, O: Write> DeskOrders<'a, R, O> {
     }
 
     /// The order of the next posted line; None where none is there, or it is something else, which is then done.
-    pub(super) fn next_posted(&mut self) -> Option<Command> {
+    pub(super) fn next_posted(&mut self) -> Option<GivenOrder> {
         let postbox = self.posted?;
         if self.wish.is_some() || self.is_closing() || self.is_full() {
             return None;
@@ -150,7 +132,7 @@ impl<'a, R: MachineClock, O: Write> DeskOrders<'a, R, O> {
         self.take_posted(postbox, &line)
     }
 
-    fn take_posted(&mut self, postbox: &Postbox, line: &PostedLine) -> Option<Command> {
+    fn take_posted(&mut self, postbox: &Postbox, line: &PostedLine) -> Option<GivenOrder> {
         self.begin_posted();
         self.say_posted(line);
         postbox.begin_answer();
@@ -197,7 +179,7 @@ impl<'a, R: MachineClock, O: Write> DeskOrders<'a, R, O> {
         let Some(postbox) = self.posted else {
             return;
         };
-        if self.wish.is_none() && self.levels.is_none() && self.command.is_none() {
+        if self.wish.is_none() && self.command.is_none() {
             postbox.end_answer();
         }
         postbox.tell(DeskState {

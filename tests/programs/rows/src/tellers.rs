@@ -1,7 +1,7 @@
 //! What stands beside a loop: what counts at a gateway, and what gives a desk its orders.
 use crate::step::Step;
 use sacn_console::{Command, ConsoleCore, ConsoleFault};
-use sacn_desk::Orders;
+use sacn_desk::{GivenOrder, Orders};
 use sacn_edge::ConsoleReport;
 use sacn_gateway::{Notes, PassedOver};
 use sacn_machine::{DeviceFault, Octets4};
@@ -94,13 +94,13 @@ impl ListOrders {
 impl Orders for ListOrders {
     fn wait(&mut self, _until: u64) {}
 
-    fn next(&mut self, now: u64) -> Option<Command> {
+    fn next(&mut self, now: u64) -> Option<GivenOrder> {
         let (moment, command) = *self.list.get(self.next)?;
         if moment > now {
             return None;
         }
         self.next = self.next.saturating_add(1);
-        Some(command)
+        Some(GivenOrder::Plain(command))
     }
 
     fn take_answer(&mut self, answer: Result<(), ConsoleFault>) {

@@ -1,10 +1,11 @@
-use Rattle.std.proofs.Common.{rules, arith, ◌≡◌, ◌∷◌, [], List, length, ◌+◌, refl, sym, ap, subst, ◌∙◌, Some, is_ok, if◌then◌else◌}
-use Rattle.sacn_console.specs.Core.{Core, at, answer, after_command}
+use Rattle.std.proofs.Common.{rules, arith, ◌≡◌, ◌∷◌, [], List, length, ◌+◌, refl, sym, ap, subst, ◌∙◌, Some}
+use Rattle.sacn_console.specs.Core.{Core}
 use Rattle.sacn_edge.specs.Additions.{Extends}
 use Rattle.sacn_edge.proofs.NodeLemmas.{Extends-append}
-use Rattle.sacn_desk.specs.DeskSends.{Talk, Asked, Answered, ordered, given, asked_last, refusals}
+use Rattle.sacn_desk.specs.DeskSends.{Talk, Asked, Answered, commands_given, commands_in, answered, ordered, given, asked_last, refusals}
 use Rattle.sacn_machine.proofs.Untold.{Extends-none}
 use Rattle.sacn_desk.proofs.Rounding.{asked_once, asked_enough}
+use Rattle.sacn_desk.proofs.WholeOrders.{ordered_append, refusals_append}
 use Rattle.sacn_desk.proofs.desk.order.Goals as goal
 
 pub loop-count-init : goal.loop-count-init
@@ -37,25 +38,28 @@ overflow_add-refused g c = omega (arith, c.loop-count.invariant.few, c.loop-coun
 pub loop-count-preserved : goal.loop-count-preserved
 loop-count-preserved g c =
     let run = c.loop-count.invariant.run in
-    let ks = run.0 in
-    let k = c.in-Some.command in
+    let os = run.0 in
+    let o = c.in-Some.order in
+    let ks = commands_given o in
     let now = c.args.now in
+    let first = c.args.core.now in
     let e = c.give-refused.ensures in
     let a = g.O.Orders.told c.loop-count.orders in
     let b = g.O.Orders.told c.next.new.self in
     let d = g.O.Orders.told c.give-refused.new.orders in
     let asks = subst (λ r. Extends a b (Asked now r ∷ [])) c.in-Some.is c.next.ensures.told in
-    let answers = subst (λ (core : Core). Extends b d (Answered (answer k (at now core)) ∷ [])) run.3 e.talk in
-    let one = Extends-append a b d (Asked now (Some k) ∷ []) (Answered (answer k (at now (ordered now ks c.args.core.now))) ∷ []) asks answers in
+    let answers = subst (λ (core : Core). Extends b d (Answered (answered now ks core) ∷ [])) run.3 e.talk in
+    let one = Extends-append a b d (Asked now (Some o) ∷ []) (Answered (answered now ks (ordered now (commands_in os) first)) ∷ []) asks answers in
     record {
       few = omega (arith, c.loop-count.invariant.few, e.one);
       run = (
-        k ∷ ks,
+        o ∷ os,
         omega (arith, run.1),
-        Extends-append _ a d (given now ks c.args.core.now) (Asked now (Some k) ∷ Answered (answer k (at now (ordered now ks c.args.core.now))) ∷ []) run.2 one,
-        e.core ∙ ap (after_command now k) run.3,
+        Extends-append _ a d (given now os first) (Asked now (Some o) ∷ Answered (answered now ks (ordered now (commands_in os) first)) ∷ []) run.2 one,
+        e.core ∙ ap (ordered now ks) run.3 ∙ sym (ordered_append now ks (commands_in os) first),
         ap (λ n. n + c.give-refused.result) run.4
-            ∙ ap (λ n. refusals now ks c.args.core.now + n) (e.refused ∙ ap (λ (core : Core). if is_ok (answer k (at now core)) then 0 else 1) run.3),
+            ∙ ap (λ n. refusals now (commands_in os) first + n) (e.refused ∙ ap (refusals now ks) run.3)
+            ∙ sym (refusals_append now ks (commands_in os) first),
       );
     }
 

@@ -1,7 +1,7 @@
 use Rattle.std.proofs.Common.{◌≡◌, ◌≤◌, List, length}
-use Rattle.sacn_console.specs.declared.command.Command.{Command as Order}
+use Rattle.sacn_desk.specs.declared.orders.GivenOrder.{GivenOrder}
 use Rattle.sacn_edge.specs.Additions.{Extends}
-use Rattle.sacn_desk.specs.DeskSends.{ordered, given, refusals}
+use Rattle.sacn_desk.specs.DeskSends.{commands_in, ordered, given, refusals}
 use Rattle.sacn_desk.proofs.desk.order.Given as goal
 
 -- the orders so far
@@ -9,9 +9,9 @@ abbrev pub invariant-loop-count : goal.invariant-loop-count
 invariant-loop-count g l = record {
   few : l.refused ≤ l._count;
   run :
-      (ks : List Order)
-      × (length ks ≡ l._count)
-      × Extends (g.O.Orders.told l.fn.orders) (g.O.Orders.told l.orders) (given l.now ks l.fn.core)
-      × (l.core ≡ ordered l.now ks l.fn.core)
-      × (l.refused ≡ refusals l.now ks l.fn.core);
+      (os : List GivenOrder)
+      × (length os ≡ l._count)
+      × Extends (g.O.Orders.told l.fn.orders) (g.O.Orders.told l.orders) (given l.now os l.fn.core)
+      × (l.core ≡ ordered l.now (commands_in os) l.fn.core)
+      × (l.refused ≡ refusals l.now (commands_in os) l.fn.core);
 }
