@@ -49,13 +49,13 @@ refused() {
 }
 refused 2 "error: --page: without --key" show.toml --page "$tcp"
 refused 2 "error: --key: without --page" show.toml --key abcd
-refused 2 "error: --key: Key" show.toml --page "$tcp" --key abc
-refused 2 "error: --key: Key" show.toml --page "$tcp" --key "$(printf 'a%.0s' $(seq 65))"
-refused 2 "error: --key: Key" show.toml --page "$tcp" --key "abc d"
-refused 2 "error: --key: Key" show.toml --page "$tcp" --key "abcä"
-refused 2 "error: --key: Key" show.toml --page "$tcp" --key ""
-refused 2 "error: 0: Port" show.toml --page 0 --key abcd
-refused 2 "error: here:80: Address" show.toml --page here:80 --key abcd
+refused 2 "error: --key: Key: a key is 4 to 64 letters, digits, - and _" show.toml --page "$tcp" --key abc
+refused 2 "error: --key: Key: a key is 4 to 64 letters, digits, - and _" show.toml --page "$tcp" --key "$(printf 'a%.0s' $(seq 65))"
+refused 2 "error: --key: Key: a key is 4 to 64 letters, digits, - and _" show.toml --page "$tcp" --key "abc d"
+refused 2 "error: --key: Key: a key is 4 to 64 letters, digits, - and _" show.toml --page "$tcp" --key "abcä"
+refused 2 "error: --key: Key: a key is 4 to 64 letters, digits, - and _" show.toml --page "$tcp" --key ""
+refused 2 "error: 0: Port: a port is 1 to 65535" show.toml --page 0 --key abcd
+refused 2 "error: here:80: Address: an address is four numbers of 0 to 255, as 10.0.0.5" show.toml --page here:80 --key abcd
 refused 2 "error: *" show.toml --page "$tcp" --key abcd --key abcd
 printf 'abc\n' >short.key
 printf 'abcd\nefgh\n' >lines.key
@@ -65,7 +65,7 @@ refused 2 "error: --key: beside --key-file" show.toml --page "$tcp" --key abcd -
 refused 3 "refused short.key Key" show.toml --page "$tcp" --key-file short.key
 refused 3 "refused lines.key Key" show.toml --page "$tcp" --key-file lines.key
 refused 3 "refused octets.key NotText" show.toml --page "$tcp" --key-file octets.key
-refused 2 "error: -: InputTaken" show.toml --page "$tcp" --key-file -
+refused 2 "error: -: InputTaken: standard input is read once" show.toml --page "$tcp" --key-file -
 refused 4 "device read absent.key" show.toml --page "$tcp" --key-file absent.key
 refused 4 "device socket 192.0.2.1:$tcp AddrNotAvailable" show.toml --page 192.0.2.1:"$tcp" --key abcd
 

@@ -323,15 +323,15 @@ tells "a setup that is faulty" 3 "refused plain Toml" empty "$top/examples/ola.p
 # Bad words.
 tells "no recording" 2 "error: *" empty
 tells "two recordings" 2 "error: *" empty x y
-tells "port 0" 2 "error: 0: Port" empty x --port 0
-tells "port 65536" 2 "error: 65536: Port" empty x --port 65536
-tells "a port with a sign" 2 "error: +1: Port" empty x --port +1
-tells "universe 0" 2 "error: 0: Universe" empty x --universe 0
-tells "universe 64000" 2 "error: 64000: Universe" empty x --universe 64000
-tells "a row that falls" 2 "error: 2-1: Universe" empty x --universe 2-1
-tells "a row without an end" 2 "error: 2-: Universe" empty x --universe 2-
-tells "a row beyond the last universe" 2 "error: 1-64000: Universe" empty x --universe 1-64000
-tells "a universe in words" 2 "error: one: Universe" empty x --universe one
+tells "port 0" 2 "error: 0: Port: a port is 1 to 65535" empty x --port 0
+tells "port 65536" 2 "error: 65536: Port: a port is 1 to 65535" empty x --port 65536
+tells "a port with a sign" 2 "error: +1: Port: a port is 1 to 65535" empty x --port +1
+tells "universe 0" 2 "error: 0: Universe: a universe is 1 to 63999, and a range goes up" empty x --universe 0
+tells "universe 64000" 2 "error: 64000: Universe: a universe is 1 to 63999, and a range goes up" empty x --universe 64000
+tells "a row that falls" 2 "error: 2-1: Universe: a universe is 1 to 63999, and a range goes up" empty x --universe 2-1
+tells "a row without an end" 2 "error: 2-: Universe: a universe is 1 to 63999, and a range goes up" empty x --universe 2-
+tells "a row beyond the last universe" 2 "error: 1-64000: Universe: a universe is 1 to 63999, and a range goes up" empty x --universe 1-64000
+tells "a universe in words" 2 "error: one: Universe: a universe is 1 to 63999, and a range goes up" empty x --universe one
 tells "a setup without a name" 2 "error: *" empty x --setup
 tells "a clock for objects, which have their time" 2 "error: --json: beside --clock" empty x --json --clock
 tells "a clock for a page" 2 "error: --page: beside --clock" empty x --page 8080 --clock

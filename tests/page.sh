@@ -22,11 +22,11 @@ refused() {
   verdict "${name//$udp/25845}" $? "status $status, '$first'"
 }
 
-refused 2 "error: 0: Port" --page 0
-refused 2 "error: 65536: Port" --page 65536
-refused 2 "error: 127.0.0.1:0: Port" --page 127.0.0.1:0
-refused 2 "error: 127.0.0.1: Address" --page 127.0.0.1
-refused 2 "error: here:80: Address" --page here:80
+refused 2 "error: 0: Port: a port is 1 to 65535" --page 0
+refused 2 "error: 65536: Port: a port is 1 to 65535" --page 65536
+refused 2 "error: 127.0.0.1:0: Port: a port is 1 to 65535" --page 127.0.0.1:0
+refused 2 "error: 127.0.0.1: Address: an address is four numbers of 0 to 255, as 10.0.0.5" --page 127.0.0.1
+refused 2 "error: here:80: Address: an address is four numbers of 0 to 255, as 10.0.0.5" --page here:80
 refused 2 "error: --page: beside --plain" --page "$tcp" --plain
 refused 2 "error: --page: beside --json" --page "$tcp" --json
 refused 2 "error: *" --page

@@ -58,10 +58,10 @@ refused() {
   verdict "$name" $? "status $status, '$(head -n 1 err)'"
 }
 refused "no file" 2 "error: *" "*"
-refused "standard input as its file" 2 "error: -: InputTaken" "*" -
+refused "standard input as its file" 2 "error: -: InputTaken: standard input is read once" "*" -
 refused "a ring of no minutes" 2 "error: *" "*" x --ring 0
 refused "a ring of more than a week" 2 "error: *" "*" x --ring 10081
-refused "an address in words" 2 "error: here: Address" "*" x --listen here
+refused "an address in words" 2 "error: here: Address: an address is four numbers of 0 to 255, as 10.0.0.5" "*" x --listen here
 refused "--join without the launcher" 2 "error: --join: start this as sacn or ./sacn, which does it" "*" x --join lo
 echo kept >there
 refused "a file that is there" 4 "device write there AlreadyExists" "that file is there, and a recording is never written over: choose another name, or move the file away" there --port "$port"

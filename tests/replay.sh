@@ -219,14 +219,14 @@ refused "one without a datagram of the port" 3 "evening.pcap: it has no datagram
 refused "what is no recording" 3 "refused moments octet 0 *" moments
 refused "a file that isn't there" 4 "device read absent" absent
 refused "no file" 2 "error: *"
-refused "standard input as its file" 2 "error: -: InputTaken" -
+refused "standard input as its file" 2 "error: -: InputTaken: standard input is read once" -
 refused "a speed of 0" 2 "error: --speed: a speed is 0.001 to 1000" evening.pcap --speed 0
 refused "a speed below 0" 2 "error: --speed: a speed is 0.001 to 1000, as 2, 0.5 or 1.25" evening.pcap --speed=-1
 refused "a speed above 1000" 2 "error: --speed: a speed is 0.001 to 1000, as 2, 0.5 or 1.25" evening.pcap --speed 10000
 refused "a beginning in words" 2 "error: --from: it is seconds behind the first datagram, as 90 or 12.5" evening.pcap --from noon
 refused "an end before the beginning" 2 "error: --until: it lies before --from" evening.pcap --from 2 --until 1
-refused "a universe that carries no data" 2 "error: 0=1: Universe" evening.pcap --universe 0=1
-refused "a universe without a number" 2 "error: 1: Universe" evening.pcap --universe 1
+refused "a universe that carries no data" 2 "error: 0=1: Universe: a universe is 1 to 63999, and a range goes up" evening.pcap --universe 0=1
+refused "a universe without a number" 2 "error: 1: Universe: a universe is 1 to 63999, and a range goes up" evening.pcap --universe 1
 refused "two universes under one number" 2 "error: --universe 3=2: another universe is mapped to this number" evening.pcap --universe 1=2 --universe 3=2
 refused "a universe under two numbers" 2 "error: --universe 1=3: this universe is mapped already" evening.pcap --universe 1=2 --universe 1=3
 refused "a group beside --multicast" 2 "error: --to 239.255.0.1: with --multicast each universe goes to its group already" evening.pcap --multicast --to 239.255.0.1

@@ -29,9 +29,9 @@ ends() {
 ends "a second of silence" 0 "hears 0.0.0.0:$quiet" --port "$quiet" --seconds 1
 ends "an address of the machine" 0 "hears 127.0.0.1:$quiet" --listen 127.0.0.1 --port "$quiet" --seconds 1 --json
 ends "an address of another machine" 4 "device socket 192.0.2.1:$quiet *" --listen 192.0.2.1 --port "$quiet" --seconds 1
-ends "an address in words" 2 "error: here: Address" --listen here
-ends "port 0" 2 "error: 0: Port" --port 0
-ends "universe 0" 2 "error: 0: Universe" --universe 0
+ends "an address in words" 2 "error: here: Address: an address is four numbers of 0 to 255, as 10.0.0.5" --listen here
+ends "port 0" 2 "error: 0: Port: a port is 1 to 65535" --port 0
+ends "universe 0" 2 "error: 0: Universe: a universe is 1 to 63999, and a range goes up" --universe 0
 ends "no seconds" 2 "error: *" --seconds 0
 ends "a file" 2 "error: *" file
 ends "a clock for a screen" 2 "error: --clock: without --plain" --clock

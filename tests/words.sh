@@ -20,20 +20,20 @@ refused() {
 }
 
 # The words of a gateway: addresses, interfaces, seconds.
-refused 2 "error: 300.1.1.1: Address" gateway x --listen 300.1.1.1
-refused 2 "error: 10.0.0.1:5568: Address" gateway x --listen 10.0.0.1:5568
-refused 2 "error: localhost: Address" gateway x --listen localhost
-refused 2 "error: 10.0.0: Address" gateway x --from 10.0.0
-refused 2 "error: ::1: Address" gateway x --from ::1
+refused 2 "error: 300.1.1.1: Address: an address is four numbers of 0 to 255, as 10.0.0.5" gateway x --listen 300.1.1.1
+refused 2 "error: 10.0.0.1:5568: Address: an address is four numbers of 0 to 255, as 10.0.0.5" gateway x --listen 10.0.0.1:5568
+refused 2 "error: localhost: Address: an address is four numbers of 0 to 255, as 10.0.0.5" gateway x --listen localhost
+refused 2 "error: 10.0.0: Address: an address is four numbers of 0 to 255, as 10.0.0.5" gateway x --from 10.0.0
+refused 2 "error: ::1: Address: an address is four numbers of 0 to 255, as 10.0.0.5" gateway x --from ::1
 refused 2 "error: --join: start this as sacn or ./sacn, which does it" gateway x --join eth0
 refused 2 "error: --join: start this as sacn or ./sacn, which does it" watch --join eth0
-refused 2 "error: x: Widget" gateway x --widget x
-refused 2 "error: 0=/dev/x: Widget" gateway x --widget 0=/dev/x
-refused 2 "error: 256=/dev/x: Widget" gateway x --widget 256=/dev/x
-refused 2 "error: 1=: Widget" gateway x --widget 1=
-refused 2 "error: 0: Port" gateway x --page 0
-refused 2 "error: 127.0.0.1: Address" gateway x --page 127.0.0.1
-refused 2 "error: here:80: Address" gateway x --page here:80
+refused 2 "error: x: Widget: a port of 1 to 255, = and a path are wanted, as 1=/dev/ttyUSB0" gateway x --widget x
+refused 2 "error: 0=/dev/x: Widget: a port of 1 to 255, = and a path are wanted, as 1=/dev/ttyUSB0" gateway x --widget 0=/dev/x
+refused 2 "error: 256=/dev/x: Widget: a port of 1 to 255, = and a path are wanted, as 1=/dev/ttyUSB0" gateway x --widget 256=/dev/x
+refused 2 "error: 1=: Widget: a port of 1 to 255, = and a path are wanted, as 1=/dev/ttyUSB0" gateway x --widget 1=
+refused 2 "error: 0: Port: a port is 1 to 65535" gateway x --page 0
+refused 2 "error: 127.0.0.1: Address: an address is four numbers of 0 to 255, as 10.0.0.5" gateway x --page 127.0.0.1
+refused 2 "error: here:80: Address: an address is four numbers of 0 to 255, as 10.0.0.5" gateway x --page here:80
 refused 2 "error: --seconds takes a number of 1 to 1000000000, in decimal digits" gateway x --seconds +5
 refused 2 "error: *" gateway
 refused 4 "device read x" gateway x y
@@ -50,12 +50,12 @@ refused 4 "device read absent" gateway absent --audit --seconds 1
 refused 4 "??:??:??.??? device read absent" gateway absent --clock
 
 # Those of a desk: hosts with ports, groups, numbers.
-refused 2 "error: 10.0.0.1:0: Port" desk x --to 10.0.0.1:0
-refused 2 "error: 10.0.0.1:65536: Port" desk x --to 10.0.0.1:65536
-refused 2 "error: 10.0.0.1:: Port" desk x --to 10.0.0.1:
-refused 2 "error: 10.0.0.256: Address" desk x --to 10.0.0.256
-refused 2 "error: stage: Address" desk x --to stage
-refused 2 "error: 10.0.0.1:1: Address" desk x --bind 10.0.0.1:1
+refused 2 "error: 10.0.0.1:0: Port: a port is 1 to 65535" desk x --to 10.0.0.1:0
+refused 2 "error: 10.0.0.1:65536: Port: a port is 1 to 65535" desk x --to 10.0.0.1:65536
+refused 2 "error: 10.0.0.1:: Port: a port is 1 to 65535" desk x --to 10.0.0.1:
+refused 2 "error: 10.0.0.256: Address: an address is four numbers of 0 to 255, as 10.0.0.5" desk x --to 10.0.0.256
+refused 2 "error: stage: Address: an address is four numbers of 0 to 255, as 10.0.0.5" desk x --to stage
+refused 2 "error: 10.0.0.1:1: Address: an address is four numbers of 0 to 255, as 10.0.0.5" desk x --bind 10.0.0.1:1
 refused 2 "error: --ttl takes a number of 1 to 255, in decimal digits" desk x --ttl +5
 refused 2 "error: --first takes a number of 0 to 255, in decimal digits" desk x --first +5
 refused 2 "error: *" desk
@@ -69,13 +69,13 @@ refused 2 "error: *" desk x --script
 refused 2 "error: *" desk x --multicast --multicast
 refused 4 "device read absent" desk absent --to 10.0.0.1 --multicast --standby
 refused 4 "device read absent" desk absent --to 1-4,7=10.0.0.1:5569 --to 9=10.0.0.1
-refused 2 "error: 0=10.0.0.1: Universe" desk x --to 0=10.0.0.1
-refused 2 "error: 5-3=10.0.0.1: Universe" desk x --to 5-3=10.0.0.1
-refused 2 "error: 1,=10.0.0.1: Universe" desk x --to 1,=10.0.0.1
-refused 2 "error: =10.0.0.1: Universe" desk x --to =10.0.0.1
-refused 2 "error: 1-64000=10.0.0.1: Universe" desk x --to 1-64000=10.0.0.1
-refused 2 "error: 1=: Address" desk x --to 1=
-refused 2 "error: 1=10.0.0.1:0: Port" desk x --to 1=10.0.0.1:0
+refused 2 "error: 0=10.0.0.1: Universe: a universe is 1 to 63999, and a range goes up" desk x --to 0=10.0.0.1
+refused 2 "error: 5-3=10.0.0.1: Universe: a universe is 1 to 63999, and a range goes up" desk x --to 5-3=10.0.0.1
+refused 2 "error: 1,=10.0.0.1: Universe: a universe is 1 to 63999, and a range goes up" desk x --to 1,=10.0.0.1
+refused 2 "error: =10.0.0.1: Universe: a universe is 1 to 63999, and a range goes up" desk x --to =10.0.0.1
+refused 2 "error: 1-64000=10.0.0.1: Universe: a universe is 1 to 63999, and a range goes up" desk x --to 1-64000=10.0.0.1
+refused 2 "error: 1=: Address: an address is four numbers of 0 to 255, as 10.0.0.5" desk x --to 1=
+refused 2 "error: 1=10.0.0.1:0: Port: a port is 1 to 65535" desk x --to 1=10.0.0.1:0
 refused 2 "error: *" desk x --standby --standby
 hosts=()
 for _ in $(seq 64); do hosts+=(--to 10.0.0.1); done
@@ -83,14 +83,14 @@ refused 4 "device read absent" desk absent "${hosts[@]}"
 refused 2 "error: --to: TooManyDestinations" desk absent "${hosts[@]}" --to 10.0.0.1
 
 # Those of a recording's page.
-refused 2 "error: 0: Port" audit x --port 0
+refused 2 "error: 0: Port: a port is 1 to 65535" audit x --port 0
 refused 2 "error: *" audit
 refused 4 "device read absent" audit absent
-refused 2 "error: 0: Port" explain x --page 0
-refused 2 "error: 65536: Port" explain x --page 65536
-refused 2 "error: 127.0.0.1:0: Port" explain x --page 127.0.0.1:0
-refused 2 "error: 127.0.0.1: Address" explain x --page 127.0.0.1
-refused 2 "error: here:80: Address" explain x --page here:80
+refused 2 "error: 0: Port: a port is 1 to 65535" explain x --page 0
+refused 2 "error: 65536: Port: a port is 1 to 65535" explain x --page 65536
+refused 2 "error: 127.0.0.1:0: Port: a port is 1 to 65535" explain x --page 127.0.0.1:0
+refused 2 "error: 127.0.0.1: Address: an address is four numbers of 0 to 255, as 10.0.0.5" explain x --page 127.0.0.1
+refused 2 "error: here:80: Address: an address is four numbers of 0 to 255, as 10.0.0.5" explain x --page here:80
 refused 2 "error: --page: beside --json" explain x --page 25893 --json
 refused 2 "error: --page: beside --setup" explain x --page 25893 --setup x
 refused 2 "error: --page: beside --each" explain x --page 25893 --each
@@ -101,19 +101,19 @@ refused 2 "error: *" explain x --page
 # Those of groups.
 refused 2 "error: *" groups x
 refused 2 "error: *" groups --device eth0
-refused 2 "error: : Device" groups x --device ""
-refused 2 "error: eth0; true: Device" groups x --device "eth0; true"
-refused 2 "error: *: Device" groups x --device "$(printf 'e%.0s' $(seq 128))"
+refused 2 "error: : Device: a device is named by letters, digits and . _ - : @, 127 at most" groups x --device ""
+refused 2 "error: eth0; true: Device: a device is named by letters, digits and . _ - : @, 127 at most" groups x --device "eth0; true"
+refused 2 "error: *: Device: a device is named by letters, digits and . _ - : @, 127 at most" groups x --device "$(printf 'e%.0s' $(seq 128))"
 
 # Standard input is read once, and where a command has no other use for it.
-refused 2 "error: -: InputTaken" decode - x -
-refused 2 "error: -: InputTaken" sim - -
-refused 2 "error: -: InputTaken" console - - --turns 1
-refused 2 "error: -: InputTaken" check - -
-refused 2 "error: -: InputTaken" explain - --setup -
-refused 2 "error: -: InputTaken" explain - --page 25893
-refused 2 "error: -: InputTaken" desk -
-refused 2 "error: -: InputTaken" desk x --script -
+refused 2 "error: -: InputTaken: standard input is read once" decode - x -
+refused 2 "error: -: InputTaken: standard input is read once" sim - -
+refused 2 "error: -: InputTaken: standard input is read once" console - - --turns 1
+refused 2 "error: -: InputTaken: standard input is read once" check - -
+refused 2 "error: -: InputTaken: standard input is read once" explain - --setup -
+refused 2 "error: -: InputTaken: standard input is read once" explain - --page 25893
+refused 2 "error: -: InputTaken: standard input is read once" desk -
+refused 2 "error: -: InputTaken: standard input is read once" desk x --script -
 
 # read_input STATUS WANTED WORD..: a run on standard input ends so
 read_input() {
@@ -128,11 +128,11 @@ read_input 0 "ip address add 239.255.0.1/32 dev eth0 autojoin" groups - --device
 
 # Of several faults one is told, the same always.
 refused 2 "error: --seconds takes a number of 1 to 1000000000, in decimal digits" gateway x --listen 300.1.1.1 --seconds +5
-refused 2 "error: 300.1.1.1: Address" gateway x --widget x --from ::1 --listen 300.1.1.1
+refused 2 "error: 300.1.1.1: Address: an address is four numbers of 0 to 255, as 10.0.0.5" gateway x --widget x --from ::1 --listen 300.1.1.1
 refused 2 "error: --first takes a number of 0 to 255, in decimal digits" desk x --ttl +5 --to stage --first +5
-refused 2 "error: stage: Address" desk x --ttl +5 --to stage --bind x
+refused 2 "error: stage: Address: an address is four numbers of 0 to 255, as 10.0.0.5" desk x --ttl +5 --to stage --bind x
 refused 2 "error: --stay: without --script" desk x --bind x --stay
-refused 2 "error: 0: Port" explain x --port 0 --universe 0 --page 0 --json
+refused 2 "error: 0: Port: a port is 1 to 65535" explain x --port 0 --universe 0 --page 0 --json
 refused 2 "error: --page: beside --json" explain x --page 0 --json --seconds +5
 refused 2 "error: --page: beside --plain" watch --universe 0 --json --plain --page 0
 refused 2 "error: --page: beside --audit" watch --page 8080 --audit

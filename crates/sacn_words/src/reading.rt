@@ -352,12 +352,18 @@ fn message_of(alloc: Global, fault: Fault<'_>) -> Result<String, AllocError> {
     match fault {
         Fault::OutOfMemory => Err(AllocError),
         Fault::Word(word, fault) => {
-            let fault = fault.name();
-            format!(in alloc; "{word}: {fault}")
+            let name = fault.name();
+            let wanted = fault.wanted();
+            format!(in alloc; "{word}: {name}: {wanted}")
         }
         Fault::TooManyDestinations => String::from_str(alloc, "--to: TooManyDestinations"),
         Fault::TooManySetups => String::from_str(alloc, "SETUP: TooManySetups"),
-        Fault::Key => String::from_str(alloc, "--key: Key"),
+        Fault::Key => {
+            String::from_str(
+                alloc,
+                "--key: Key: a key is 4 to 64 letters, digits, - and _",
+            )
+        }
         Fault::Beside(name, other) => format!(in alloc; "--{name}: beside --{other}"),
         Fault::Without(name, other) => format!(in alloc; "--{name}: without --{other}"),
         Fault::OfLauncher(name) => {

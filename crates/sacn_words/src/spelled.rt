@@ -31,6 +31,19 @@ impl WordFault {
             WordFault::InputTaken => "InputTaken",
         }
     }
+
+    /// What the word has to be, for whoever wrote it.
+    pub fn wanted(self) -> &'static str {
+        match self {
+            WordFault::Address => "an address is four numbers of 0 to 255, as 10.0.0.5",
+            WordFault::Port => "a port is 1 to 65535",
+            WordFault::Universe => "a universe is 1 to 63999, and a range goes up",
+            WordFault::Widget => "a port of 1 to 255, = and a path are wanted, as 1=/dev/ttyUSB0",
+            WordFault::Device => "a device is named by letters, digits and . _ - : @, 127 at most",
+            WordFault::Kind => "a file is a show, setup, world, script or schedule",
+            WordFault::InputTaken => "standard input is read once",
+        }
+    }
 }
 
 /// The letters of the longest name that Linux gives a network device.
