@@ -1,4 +1,4 @@
-use Rattle.std.proofs.Common.{◌≡◌, ℕ, Bool, sym, ap, ◌∙◌, is_ok, if◌then◌else◌}
+use Rattle.std.proofs.Common.{ℕ, Bool, sym, ap, ◌∙◌, is_ok, if◌then◌else◌}
 use Rattle.sacn_desk.proofs.WholeOrders.{refused_of}
 use Rattle.sacn_desk.proofs.desk.give.Goals as goal
 
