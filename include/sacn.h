@@ -295,7 +295,7 @@ int sacn_node_new(struct sacn_node *node, const char *setup, size_t length, uint
 #define SACN_MAX_TEXT 1048576
 
 /* Tells every fault of a setup, `length` octets of TOML: the lines that `sacn check` prints of a file with this text (docs/FILES.md, "Files checked"),
-   without the file's name and the colon and the space behind it, as "port[0].universe: 64000: KeyValue: a universe is 1 to 63999". Each line has
+   without the file's name and the colon and the space behind it, as "line 5: port[0].universe: 64000: KeyValue: a universe is 1 to 63999". Each line has
    letters of ASCII from the space to the tilde and ends with LF; there are at most 101, and behind them no NUL. They are written to a room of `room`
    octets, and `count` says how many octets they have: 0 exactly where sacn_node_new makes a node, as long as there is memory. Octets that aren't UTF-8
    have a line too. Status: SACN_LENGTH where there is too little room, with `count` told, and, with `count` as it was, where the text has more than

@@ -61,30 +61,30 @@ slot = 1
 wide = 1
 E
 tells "a show of many faults" 3 show --as show <<'E'
-show: colour: "red\u001B[31m": UnknownKey: the keys here are version, cid, name, priority, universes, send_to, cue, patch
-show: cue[1].fade: 3: UnknownKey: the keys here are number, up, down, levels
-show: cue[1].up: MissingKey: an up time in milliseconds is 0 to 3600000
-show: cue[1].down: MissingKey: a down time in milliseconds is 0 to 3600000
-show: cid: "not one": KeyValue: a CID is the text of a UUID
-show: priority: 201: KeyValue: a priority is 0 to 200
-show: universes[3]: 64000: KeyValue: a universe is 1 to 63999
-show: universes[4]: "3": KeyValue: a universe is 1 to 63999
-show: universes[2]: 1: KeyValue: a universe stands once
-show: send_to[0]: 0: KeyValue: a UDP port is 1 to 65535
-show: cue[0].number: 65536: KeyValue: the number of a cue is 0 to 65535
-show: cue[0].levels[2]: [1]: KeyValue: a pair of a channel and a level
-show: cue[0].levels[3][0]: 70000: KeyValue: a channel is 1 to 2048
-show: cue[0].levels[3][1]: -1: KeyValue: a level is 0 to 65535
-show: cue[1].levels: 5: KeyValue: the levels are an array of pairs of a channel and a level
-show: cue[2].up: 4294967296: KeyValue: an up time in milliseconds is 0 to 3600000
-show: cue[2].levels[0]: 1: KeyValue: a pair of a channel and a level
-show: patch[1].channel: 1.0: KeyValue: a channel is 1 to 2048
-show: patch[1].wide: 1: KeyValue: wide is true or false
-show: cue[0].levels[1][0]: 2049: Cue ChannelRange: a channel is 1 to 2048
-show: cue[0].down: 3600001: Cue FadeRange: a time in milliseconds is 0 to 3600000
-show: cue[2].number: 1: Cue NumberTaken: a number that no cue before it has
-show: patch[0].channel: 0: Patch ChannelRange: a channel is 1 to 2048
-show: patch[0].slot: 513: Patch SlotRange: a slot is 1 to 512
+show: line 7: colour: "red\u001B[31m": UnknownKey: the keys here are version, cid, name, priority, universes, send_to, cue, patch
+show: line 15: cue[1].fade: 3: UnknownKey: the keys here are number, up, down, levels
+show: line 13: cue[1].up: MissingKey: an up time in milliseconds is 0 to 3600000
+show: line 13: cue[1].down: MissingKey: a down time in milliseconds is 0 to 3600000
+show: line 2: cid: "not one": KeyValue: a CID is the text of a UUID
+show: line 6: priority: 201: KeyValue: a priority is 0 to 200
+show: line 4: universes[3]: 64000: KeyValue: a universe is 1 to 63999
+show: line 4: universes[4]: "3": KeyValue: a universe is 1 to 63999
+show: line 4: universes[2]: 1: KeyValue: a universe stands once
+show: line 5: send_to[0]: 0: KeyValue: a UDP port is 1 to 65535
+show: line 9: cue[0].number: 65536: KeyValue: the number of a cue is 0 to 65535
+show: line 12: cue[0].levels[2]: [1]: KeyValue: a pair of a channel and a level
+show: line 12: cue[0].levels[3][0]: 70000: KeyValue: a channel is 1 to 2048
+show: line 12: cue[0].levels[3][1]: -1: KeyValue: a level is 0 to 65535
+show: line 16: cue[1].levels: 5: KeyValue: the levels are an array of pairs of a channel and a level
+show: line 19: cue[2].up: 4294967296: KeyValue: an up time in milliseconds is 0 to 3600000
+show: line 21: cue[2].levels[0]: 1: KeyValue: a pair of a channel and a level
+show: line 27: patch[1].channel: 1.0: KeyValue: a channel is 1 to 2048
+show: line 30: patch[1].wide: 1: KeyValue: wide is true or false
+show: line 12: cue[0].levels[1][0]: 2049: Cue ChannelRange: a channel is 1 to 2048
+show: line 11: cue[0].down: 3600001: Cue FadeRange: a time in milliseconds is 0 to 3600000
+show: line 18: cue[2].number: 1: Cue NumberTaken: a number that no cue before it has
+show: line 23: patch[0].channel: 0: Patch ChannelRange: a channel is 1 to 2048
+show: line 25: patch[0].slot: 513: Patch SlotRange: a slot is 1 to 512
 E
 
 head='cid = "00010203-0405-0607-0809-0a0b0c0d0e0f"
@@ -107,10 +107,10 @@ fade = 3600001
 levels = []
 E
 tells "cues of version 1" 3 cues <<'E'
-cues: cue[0].levels[0][0]: 0: Cue ChannelRange: a channel is 1 to 2048
-cues: cue[0].levels[2][0]: 2049: Cue ChannelRange: a channel is 1 to 2048
-cues: cue[2].fade: 3600001: Cue FadeRange: a time in milliseconds is 0 to 3600000
-cues: cue[2].number: 1: Cue NumberTaken: a number that no cue before it has
+cues: line 8: cue[0].levels[0][0]: 0: Cue ChannelRange: a channel is 1 to 2048
+cues: line 8: cue[0].levels[2][0]: 2049: Cue ChannelRange: a channel is 1 to 2048
+cues: line 15: cue[2].fade: 3600001: Cue FadeRange: a time in milliseconds is 0 to 3600000
+cues: line 14: cue[2].number: 1: Cue NumberTaken: a number that no cue before it has
 E
 
 cat >patch <<E
@@ -145,12 +145,12 @@ universe = 7
 slot = 510
 E
 tells "a patch" 3 patch <<'E'
-patch: patch[1].slot: 512: Patch SlotTaken: a slot that no entry before it has
-patch: patch[2].slot: 512: Patch SlotRange: the slot of a wide channel is 1 to 511
-patch: patch[3].universe: 8: Patch NoUniverse: a universe of the patch is one of the show's
-patch: patch[3].channel: 2049: Patch ChannelRange: a channel is 1 to 2048
-patch: patch[3].slot: 0: Patch SlotRange: a slot is 1 to 512
-patch: patch[4].slot: 510: Patch SlotTaken: a slot that no entry before it has
+patch: line 13: patch[1].slot: 512: Patch SlotTaken: a slot that no entry before it has
+patch: line 17: patch[2].slot: 512: Patch SlotRange: the slot of a wide channel is 1 to 511
+patch: line 21: patch[3].universe: 8: Patch NoUniverse: a universe of the patch is one of the show's
+patch: line 20: patch[3].channel: 2049: Patch ChannelRange: a channel is 1 to 2048
+patch: line 22: patch[3].slot: 0: Patch SlotRange: a slot is 1 to 512
+patch: line 26: patch[4].slot: 510: Patch SlotTaken: a slot that no entry before it has
 E
 
 {
@@ -165,36 +165,68 @@ E
   printf 'universes = [%s]\nsend_to = [1, 2, 3, 4, 5, 6, 7, 8, 9]\n' "$(seq -s, 1025)"
 } >wide.toml
 tells "too many universes and destinations" 3 wide.toml <<'E'
-wide.toml: universes: 1025 members: KeyValue: the universes are an array of at most 1024 different numbers 1 to 63999
-wide.toml: send_to: 9 members: KeyValue: the destinations are an array of at most 8 UDP ports 1 to 65535
+wide.toml: line 4: universes: 1025 members: KeyValue: the universes are an array of at most 1024 different numbers 1 to 63999
+wide.toml: line 5: send_to: 9 members: KeyValue: the destinations are an array of at most 8 UDP ports 1 to 65535
 E
 printf 'version = 2\n%s\ncue = 5\npatch = [1, {}]\n' "$head" >rows.toml
 tells "arrays that are none" 3 rows.toml <<'E'
-rows.toml: cue: 5: KeyValue: the cues are an array of tables
-rows.toml: patch[0]: 1: KeyValue: the patch is an array of tables
+rows.toml: line 5: cue: 5: KeyValue: the cues are an array of tables
+rows.toml: line 6: patch[0]: 1: KeyValue: the patch is an array of tables
 E
 printf 'version = 2\nname = "%s"\nuniverses = 5\ncid = 5\n"a key" = 1\n' "$(printf 'x%.0s' $(seq 64))" >top.toml
 tells "the values of a show alone" 3 top.toml --as show <<'E'
-top.toml: "a key": 1: UnknownKey: the keys here are version, cid, name, priority, universes, send_to, cue, patch
-top.toml: cid: 5: KeyValue: a CID is the text of a UUID
-top.toml: name: "xxxxxxxxxxxxxxxxxxxxxxxxxxxxxxxxxxxxxxx..: KeyValue: a name is text of at most 63 octets without NUL
-top.toml: universes: 5: KeyValue: the universes are an array of at most 1024 different numbers 1 to 63999
+top.toml: line 5: "a key": 1: UnknownKey: the keys here are version, cid, name, priority, universes, send_to, cue, patch
+top.toml: line 4: cid: 5: KeyValue: a CID is the text of a UUID
+top.toml: line 2: name: "xxxxxxxxxxxxxxxxxxxxxxxxxxxxxxxxxxxxxxx..: KeyValue: a name is text of at most 63 octets without NUL
+top.toml: line 3: universes: 5: KeyValue: the universes are an array of at most 1024 different numbers 1 to 63999
+E
+
+# The line of a place: beside texts over several lines, comments, and arrays and inline tables that go over lines.
+cat >places.toml <<'E'
+version = 2
+# [[cue]]
+name = """a [b] = "c" # d
+"e""""
+"cid" = 'x # y'
+universes = [ # [[
+  1,
+
+  64000, # of no universe
+]
+cue = [
+  { number = 1, up = 0, down = 0,
+    levels = [[1, 2],
+      [3,
+       70000]] },
+  { "number" = 70000, up = 0, down = 0, levels = [] },
+]
+[[patch]]
+channel = 1
+universe = 1
+slot = 1.5
+E
+tells "lines of places" 3 places.toml --as show <<'E'
+places.toml: line 5: cid: "x # y": KeyValue: a CID is the text of a UUID
+places.toml: line 9: universes[1]: 64000: KeyValue: a universe is 1 to 63999
+places.toml: line 15: cue[0].levels[1][1]: 70000: KeyValue: a level is 0 to 65535
+places.toml: line 16: cue[1].number: 70000: KeyValue: the number of a cue is 0 to 65535
+places.toml: line 21: patch[0].slot: 1.5: KeyValue: a slot is 1 to 512
 E
 
 # Versions: the rest is looked at by the version whose keys it has.
 printf '%s\n[[cue]]\nnumber = 1\nfade = 0\nlevels = 1\n' "$head" >none.toml
 tells "no version" 3 none.toml <<'E'
 none.toml: version: MissingKey: the version is 1 or 2
-none.toml: cue[0].levels: 1: KeyValue: the levels are an array of pairs of a channel and a level
+none.toml: line 7: cue[0].levels: 1: KeyValue: the levels are an array of pairs of a channel and a level
 E
 printf 'version = 3\n%s\n[[cue]]\nnumber = 1\nup = 0\nlevels = []\n' "$head" >new.toml
 tells "a version that isn't known" 3 new.toml <<'E'
-new.toml: version: 3: Version: the version is 1 or 2
-new.toml: cue[0].down: MissingKey: a down time in milliseconds is 0 to 3600000
+new.toml: line 1: version: 3: Version: the version is 1 or 2
+new.toml: line 5: cue[0].down: MissingKey: a down time in milliseconds is 0 to 3600000
 E
 printf 'version = true\n%s\n' "$head" >true.toml
 tells "a version of another kind" 3 true.toml <<'E'
-true.toml: version: true: KeyValue: the version is 1 or 2
+true.toml: line 1: version: true: KeyValue: the version is 1 or 2
 E
 
 # Setups.
@@ -218,17 +250,17 @@ number = 256
 range = [1]
 E
 tells "a setup of many faults" 3 ports.toml <<'E'
-ports.toml: port[0].universe: 1: UnknownKey: the keys here are number, range
-ports.toml: port[0].range[3].port_slot: MissingKey: a slot of the port is 1 to 512
-ports.toml: udp_port: 0: KeyValue: a UDP port is 1 to 65535
-ports.toml: port[1].range: 0 members: KeyValue: the ranges of a port are an array of 1 to 8 tables
-ports.toml: port[2].number: 256: KeyValue: the number of a port is 1 to 255
-ports.toml: port[2].range[0]: 1: KeyValue: the ranges of a port are an array of 1 to 8 tables
-ports.toml: port[0].range[1].universe: 0: KeyValue: a universe is 1 to 63999
-ports.toml: port[1].number: 1: PortTaken: a number that no port before it has
-ports.toml: port[0].range[0].count: 14: RangeEnd: slot + count is at most 513
-ports.toml: port[0].range[2].count: 3: RangeEnd: port_slot + count is at most 513
-ports.toml: port[0].range[1].port_slot: 12: Overlap: slots of the port that no range before it takes
+ports.toml: line 5: port[0].universe: 1: UnknownKey: the keys here are number, range
+ports.toml: line 10: port[0].range[3].port_slot: MissingKey: a slot of the port is 1 to 512
+ports.toml: line 2: udp_port: 0: KeyValue: a UDP port is 1 to 65535
+ports.toml: line 14: port[1].range: 0 members: KeyValue: the ranges of a port are an array of 1 to 8 tables
+ports.toml: line 16: port[2].number: 256: KeyValue: the number of a port is 1 to 255
+ports.toml: line 17: port[2].range[0]: 1: KeyValue: the ranges of a port are an array of 1 to 8 tables
+ports.toml: line 8: port[0].range[1].universe: 0: KeyValue: a universe is 1 to 63999
+ports.toml: line 13: port[1].number: 1: PortTaken: a number that no port before it has
+ports.toml: line 7: port[0].range[0].count: 14: RangeEnd: slot + count is at most 513
+ports.toml: line 9: port[0].range[2].count: 3: RangeEnd: port_slot + count is at most 513
+ports.toml: line 8: port[0].range[1].port_slot: 12: Overlap: slots of the port that no range before it takes
 E
 {
   echo 'version = 1'
@@ -245,7 +277,7 @@ E
   done
 } >18.toml
 tells "18 universes" 3 18.toml <<'E'
-18.toml: port[2].range[4].universe: 23: Limit: a node has at most 16 different universes
+18.toml: line 89: port[2].range[4].universe: 23: Limit: a node has at most 16 different universes
 E
 
 # Worlds: their own faults, then those of shows and setups, then consoles of one CID.
@@ -281,15 +313,15 @@ number = 0
 universe = 1
 E
 tells "a world of many faults" 3 world <<'E'
-world: version: 2: Version: the version is 1
-world: console[0].colour: 1: UnknownKey: the keys here are first, show
-world: node[0].setup: MissingKey: a setup is a table
-world: console[0].first: 256: KeyValue: the number of the first packet is 0 to 255
-world: console[1].show: 5: KeyValue: a show is a table
-world: console[0].show.priority: 201: Console 0 KeyValue: a priority is 0 to 200
-world: console[2].show.patch[0].universe: 2: Console 2 Patch NoUniverse: a universe of the patch is one of the show's
-world: node[1].setup.port[0].number: 0: Node 1 KeyValue: the number of a port is 1 to 255
-world: console[2].show.cid: "{00010203-0405-0607-0809-0A0B0C0D0E0F}": SameCid: a CID that no console before it has
+world: line 1: version: 2: Version: the version is 1
+world: line 4: console[0].colour: 1: UnknownKey: the keys here are first, show
+world: line 23: node[0].setup: MissingKey: a setup is a table
+world: line 3: console[0].first: 256: KeyValue: the number of the first packet is 0 to 255
+world: line 12: console[1].show: 5: KeyValue: a show is a table
+world: line 10: console[0].show.priority: 201: Console 0 KeyValue: a priority is 0 to 200
+world: line 21: console[2].show.patch[0].universe: 2: Console 2 Patch NoUniverse: a universe of the patch is one of the show's
+world: line 28: node[1].setup.port[0].number: 0: Node 1 KeyValue: the number of a port is 1 to 255
+world: line 16: console[2].show.cid: "{00010203-0405-0607-0809-0A0B0C0D0E0F}": SameCid: a CID that no console before it has
 E
 
 # Texts that are no documents: the place of the parser's fault, and what stands there.
@@ -345,7 +377,7 @@ nested 81 >81.toml
 opened=$(printf '[%.0s' $(seq 40))
 closed=$(printf ']%.0s' $(seq 39))
 tells "arrays 80 and 81 deep" 3 80.toml 81.toml <<E
-80.toml: x: $opened..: UnknownKey: the keys here are version, cid, name, priority, universes, send_to, cue, patch
+80.toml: line 5: x: $opened..: UnknownKey: the keys here are version, cid, name, priority, universes, send_to, cue, patch
 81.toml: line 5, column 85: [$closed..: Toml: *
 E
 printf '\xef\xbb\xbfversion = 2\r\ncid = "00010203-0405-0607-0809-0a0b0c0d0e0f"\nname = "\\e\\x41"\nuniverses = [0x1, 0b10, 0o7, 1_0, +11]\npatch = [{ channel = 1,\n universe = 1, # text\n slot = 1,\n}]\n' >1.1.toml
@@ -378,7 +410,7 @@ tells "a file that is absent, and one after it" 4 absent bare.toml show.toml <<'
 bare.toml: Kind: no key tells what it is: name it by --as
 show.toml: right: a show
 E
-printf 'show.toml: right: a show\n-: colour: 1: UnknownKey: the keys here are version, udp_port, port\n' >wanted
+printf 'show.toml: right: a show\n-: line 2: colour: 1: UnknownKey: the keys here are version, udp_port, port\n' >wanted
 printf 'version = 1\ncolour = 1\nport = []\n' | timeout 20 "$sacn" check show.toml - >out 2>err
 [ "${PIPESTATUS[1]}" = 3 ] && cmp -s wanted out
 verdict "standard input among files" $? "$(head -n 2 out)"

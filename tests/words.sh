@@ -182,7 +182,7 @@ placed() {
   verdict "what is wrong is said: $*" $? "$(sed 1d err | head -n 2)"
 }
 printf 'version = 1\ncolour = 1\n' >faulty
-placed "faulty: colour: 1: UnknownKey: the keys here are version, udp_port, port" gateway faulty
+placed "faulty: line 2: colour: 1: UnknownKey: the keys here are version, udp_port, port" gateway faulty
 placed "show: this is a show, which sacn desk plays" gateway show
 printf 'version = 1\n[[port]]\nnumber = 1\nuniverse = 1\n' >faulty
 placed "faulty: this is a setup, which sacn gateway runs" desk faulty

@@ -223,8 +223,8 @@ void node() {
     CHECK(throws(sacn::Family::setup, SACN_SETUP_VERSION, [] { sacn::Node("version = 3"); }));
 
     const char *const bad = "version = 1\nudp_port = 0\n[[port]]\nnumber = 3\nuniverse = 64000\n";
-    const Lines lines{"udp_port: 0: KeyValue: a UDP port is 1 to 65535",
-                      "port[0].universe: 64000: KeyValue: a universe is 1 to 63999"};
+    const Lines lines{"line 2: udp_port: 0: KeyValue: a UDP port is 1 to 65535",
+                      "line 5: port[0].universe: 64000: KeyValue: a universe is 1 to 63999"};
     CHECK(sacn::setup_faults(setup).empty() && sacn::setup_faults(bad) == lines);
     CHECK(faults_of(sacn::Family::setup, SACN_SETUP_KEY_VALUE, [&] { sacn::Node{bad}; }) == lines);
     CHECK(sacn::setup_faults("\xff") == Lines{"NotText: a text is UTF-8"});
@@ -296,9 +296,9 @@ void console() {
     std::string bad(show);
     bad.replace(bad.find("[[1, 65535]]"), 12, "[[1, 70000], [2049, 1]]");
     bad.replace(bad.find("slot = 1"), 8, "slot = 513");
-    const Lines lines{"cue[0].levels[0][1]: 70000: KeyValue: a level is 0 to 65535",
-                      "cue[0].levels[1][0]: 2049: Cue ChannelRange: a channel is 1 to 2048",
-                      "patch[0].slot: 513: Patch SlotRange: a slot is 1 to 512"};
+    const Lines lines{"line 9: cue[0].levels[0][1]: 70000: KeyValue: a level is 0 to 65535",
+                      "line 9: cue[0].levels[1][0]: 2049: Cue ChannelRange: a channel is 1 to 2048",
+                      "line 13: patch[0].slot: 513: Patch SlotRange: a slot is 1 to 512"};
     CHECK(sacn::show_faults(show).empty() && sacn::show_faults(bad) == lines);
     CHECK(faults_of(sacn::Family::show, SACN_SHOW_KEY_VALUE, [&] { sacn::Console{bad}; }) == lines);
 
@@ -308,7 +308,7 @@ void console() {
     for (int universe = 64001; universe < 64150; universe++) many += ", " + std::to_string(universe);
     const Lines told = sacn::show_faults(many + "]\n");
     CHECK(told.size() == 101 && told.back() == "50 more");
-    CHECK(told[99] == "universes[99]: 64099: KeyValue: a universe is 1 to 63999");
+    CHECK(told[99] == "line 4: universes[99]: 64099: KeyValue: a universe is 1 to 63999");
 }
 
 void source() {

@@ -503,7 +503,7 @@ def _refused(error: SacnError, call: str, text: bytes) -> SacnError:
 def setup_faults(setup: Text) -> List[str]:
     """Every fault of a setup in TOML, a line each, as `sacn check` prints it behind a file's name.
 
-    So "port[0].universe: 64000: KeyValue: a universe is 1 to 63999". There are none exactly where `Node` takes the
+    So "line 5: port[0].universe: 64000: KeyValue: a universe is 1 to 63999". There are none exactly where `Node` takes the
     setup. SacnError with Status.LENGTH where it has more than MAX_TEXT octets.
     """
     status, lines = _faults("setup_faults", _text(setup, "setup"))

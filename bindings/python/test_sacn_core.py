@@ -264,8 +264,8 @@ class Merging(Base):
 
     def test_the_faults_of_a_setup(self):
         lines = [
-            "udp_port: 0: KeyValue: a UDP port is 1 to 65535",
-            "port[0].universe: 64000: KeyValue: a universe is 1 to 63999",
+            "line 2: udp_port: 0: KeyValue: a UDP port is 1 to 65535",
+            "line 5: port[0].universe: 64000: KeyValue: a universe is 1 to 63999",
         ]
         setup = SETUP.replace("universe = 1", "universe = 64000").replace("\n", "\nudp_port = 0\n", 1)
         self.assertEqual(sacn_core.setup_faults(SETUP), [])
@@ -360,9 +360,9 @@ class Playing(Base):
     def test_the_faults_of_a_show(self):
         show = SHOW.replace("[[1, 65535]]", "[[1, 70000], [2049, 1]]").replace("slot = 1", "slot = 513")
         lines = [
-            "cue[0].levels[0][1]: 70000: KeyValue: a level is 0 to 65535",
-            "cue[0].levels[1][0]: 2049: Cue ChannelRange: a channel is 1 to 2048",
-            "patch[0].slot: 513: Patch SlotRange: a slot is 1 to 512",
+            "line 9: cue[0].levels[0][1]: 70000: KeyValue: a level is 0 to 65535",
+            "line 9: cue[0].levels[1][0]: 2049: Cue ChannelRange: a channel is 1 to 2048",
+            "line 13: patch[0].slot: 513: Patch SlotRange: a slot is 1 to 512",
         ]
         self.assertEqual(sacn_core.show_faults(SHOW), [])
         self.assertEqual(sacn_core.show_faults(show), lines)
@@ -373,7 +373,7 @@ class Playing(Base):
 
     def test_a_hundred_faults_are_told_and_the_rest_counted(self):
         head = SHOW[: SHOW.index("universes")]
-        lines = [f"universes[{place}]: {64000 + place}: KeyValue: a universe is 1 to 63999" for place in range(100)]
+        lines = [f"line 4: universes[{place}]: {64000 + place}: KeyValue: a universe is 1 to 63999" for place in range(100)]
         self.assertEqual(sacn_core.show_faults(f"{head}universes = {list(range(64000, 64150))}"), [*lines, "50 more"])
 
 

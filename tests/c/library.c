@@ -198,13 +198,13 @@ static void node(void) {
 /* The faults of a text: what `sacn check` prints of a file with it, behind the file's name. */
 static void faults(void) {
     static const char bad[] = "version = 1\nudp_port = 0\n[[port]]\nnumber = 3\nuniverse = 64000\n";
-    static const char told[] = "udp_port: 0: KeyValue: a UDP port is 1 to 65535\nport[0].universe: 64000: KeyValue: a universe is 1 to 63999\n";
+    static const char told[] = "line 2: udp_port: 0: KeyValue: a UDP port is 1 to 65535\nline 5: port[0].universe: 64000: KeyValue: a universe is 1 to 63999\n";
     static const char bad_show[] =
         "version = 2\ncid = \"00010203-0405-0607-0809-0a0b0c0d0e0f\"\nname = \"Desk\"\nuniverses = [7]\n"
         "[[cue]]\nnumber = 1\nup = 0\ndown = 0\nlevels = [[1, 70000], [2049, 1]]\n[[patch]]\nchannel = 1\nuniverse = 7\nslot = 513\n";
-    static const char told_of_show[] = "cue[0].levels[0][1]: 70000: KeyValue: a level is 0 to 65535\n"
-                                       "cue[0].levels[1][0]: 2049: Cue ChannelRange: a channel is 1 to 2048\n"
-                                       "patch[0].slot: 513: Patch SlotRange: a slot is 1 to 512\n";
+    static const char told_of_show[] = "line 9: cue[0].levels[0][1]: 70000: KeyValue: a level is 0 to 65535\n"
+                                       "line 9: cue[0].levels[1][0]: 2049: Cue ChannelRange: a channel is 1 to 2048\n"
+                                       "line 13: patch[0].slot: 513: Patch SlotRange: a slot is 1 to 512\n";
     static const char told_of_none[] = "NotText: a text is UTF-8\n";
     static char lines[1000], text[SACN_MAX_TEXT + 1];
     size_t count = 99, length = strlen(told);

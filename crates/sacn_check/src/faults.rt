@@ -10,6 +10,7 @@ use crate::document::part_faults;
 use crate::finding::{Fault, Finding, Findings, finding_of};
 use crate::kinds::FileKind;
 use crate::line_faults::line_faults;
+use crate::lines::lines_of;
 use crate::place::{Found, Place};
 use crate::refusal::{Owner, Refusal};
 use crate::rules::Wanted;
@@ -31,9 +32,9 @@ pub fn faults_of(alloc: Global, kind: FileKind, text: &str) -> Result<Findings, 
     ensures { IfOk result (λ findings. first_refusal findings.told.items ≡ refusal kind text.now) }
 {
     match kind {
-        FileKind::Show => show_faults(alloc, text),
-        FileKind::Setup => setup_faults(alloc, text),
-        FileKind::World => world_faults(alloc, text),
+        FileKind::Show => with_lines(alloc, text, show_faults(alloc, text)?),
+        FileKind::Setup => with_lines(alloc, text, setup_faults(alloc, text)?),
+        FileKind::World => with_lines(alloc, text, world_faults(alloc, text)?),
         FileKind::Script => {
             let refusal = script_refusal(alloc, text)?;
             all_faults(alloc, refusal, Source::Lines(kind, text))
@@ -43,6 +44,15 @@ pub fn faults_of(alloc: Global, kind: FileKind, text: &str) -> Result<Findings, 
             all_faults(alloc, refusal, Source::Lines(kind, text))
         }
     }
+}
+
+/// The same, with the line of each place.
+fn with_lines(alloc: Global, text: &str, findings: Findings) -> Result<Findings, AllocError>
+    ensures { IfOk result (λ lined. first_refusal lined.told.items ≡ first_refusal findings.told.items) }
+{
+    let lines = lines_of(alloc, text, findings.told.as_slice())?;
+    let Findings { told, more, .. } = findings;
+    Ok(Findings { told, lines, more })
 }
 
 /// What the rules look through.
@@ -264,7 +274,11 @@ fn led_by(alloc: Global, refusal: Refusal, findings: Findings) -> Result<Finding
     if is_first(findings.told.as_slice(), refusal) {
         return Ok(findings);
     }
-    let Findings { mut told, more } = findings;
+    let Findings {
+        mut told,
+        lines,
+        more,
+    } = findings;
     let fault = Fault {
         refusal,
         detail: None,
@@ -274,5 +288,5 @@ fn led_by(alloc: Global, refusal: Refusal, findings: Findings) -> Result<Finding
     };
     let finding = finding_of(alloc, &fault)?;
     told.insert(0, finding)?;
-    Ok(Findings { told, more })
+    Ok(Findings { told, lines, more })
 }

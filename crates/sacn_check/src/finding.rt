@@ -49,6 +49,8 @@ pub struct Finding {
 pub struct Findings {
     /// The first of them, at most [`MAX_TOLD`].
     pub told: Vec<Finding>,
+    /// For each of these the line of the TOML text, from 1, on which its place is, or the table that lacks it; 0 where none is known.
+    pub lines: Vec<usize>,
     /// How many others there are.
     pub more: usize,
 }
@@ -91,8 +93,14 @@ impl Findings {
     {
         Findings {
             told: Vec::new(alloc),
+            lines: Vec::new(alloc),
             more: 0,
         }
+    }
+
+    /// The line of the finding at a place, or 0.
+    pub(crate) fn line_at(&self, at: usize) -> usize {
+        self.lines.get(at).copied().unwrap_or(0)
     }
 
     /// Takes a fault after those before it, or counts it.

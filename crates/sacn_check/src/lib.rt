@@ -10,6 +10,7 @@ mod finding;
 mod keys;
 mod kinds;
 mod line_faults;
+mod lines;
 mod place;
 mod quick;
 mod refusal;
@@ -18,6 +19,7 @@ mod rules;
 mod setups;
 mod shows;
 mod spelling;
+mod tokens;
 mod values;
 mod worlds;
 

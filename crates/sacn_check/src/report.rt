@@ -56,8 +56,11 @@ fn push_part(line: &mut String, part: &str) -> Result<(), AllocError> {
     line.push_str(": ")
 }
 
-/// What is told of a fault behind the file's name.
-fn push_fault(line: &mut String, finding: &Finding) -> Result<(), AllocError> {
+/// What is told of a fault behind the file's name, with the number of its line where that is known.
+fn push_fault(line: &mut String, finding: &Finding, number: usize) -> Result<(), AllocError> {
+    if number > 0 {
+        write!(line, "line {number}: ")?;
+    }
     push_part(line, finding.place.as_str())?;
     push_part(line, finding.found.as_str())?;
     push_name(line, finding.refusal, finding.detail)?;
@@ -66,20 +69,25 @@ fn push_fault(line: &mut String, finding: &Finding) -> Result<(), AllocError> {
 }
 
 /// The line of a fault.
-fn line_of(alloc: Global, file: &str, finding: &Finding) -> Result<String, AllocError> {
+fn line_of(
+    alloc: Global,
+    file: &str,
+    finding: &Finding,
+    number: usize,
+) -> Result<String, AllocError> {
     let mut line = String::new(alloc);
     push_shown(&mut line, file)?;
     line.push_str(": ")?;
-    push_fault(&mut line, finding)?;
+    push_fault(&mut line, finding, number)?;
     Ok(line)
 }
 
 /// The lines of faults, and how many others there are, without the last line's end.
 fn push_faults(lines: &mut String, findings: &Findings) -> Result<(), AllocError> {
     let mut before = "";
-    for finding in findings.told.as_slice() {
+    for (at, finding) in findings.told.as_slice().iter().enumerate() {
         lines.push_str(before)?;
-        push_fault(lines, finding)?;
+        push_fault(lines, finding, findings.line_at(at))?;
         before = "\n";
     }
     let more = findings.more;
@@ -118,8 +126,8 @@ pub fn write_report<W: Write>(
     if findings.told.is_empty() {
         return end_line(said_of(alloc, file, "right", kind_name(kind))?, out);
     }
-    for finding in findings.told.as_slice() {
-        end_line(line_of(alloc, file, finding)?, out)?;
+    for (at, finding) in findings.told.as_slice().iter().enumerate() {
+        end_line(line_of(alloc, file, finding, findings.line_at(at))?, out)?;
     }
     if findings.more > 0 {
         end_line(more_of(alloc, file, findings.more)?, out)?;

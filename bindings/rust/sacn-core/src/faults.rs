@@ -21,7 +21,7 @@ fn lines_of(text: &[u8], tell: fn(&[u8], &mut [u8], &mut usize) -> i32) -> Resul
 }
 
 /// Every fault of a setup in TOML, a line each, as `sacn check` prints it behind a file's name:
-/// `port[0].universe: 64000: KeyValue: a universe is 1 to 63999`.
+/// `line 5: port[0].universe: 64000: KeyValue: a universe is 1 to 63999`.
 ///
 /// There are none exactly where [`Node::new`](crate::Node::new) takes the setup.
 /// [`Status::Length`](crate::Status::Length) where it has more than [`MAX_TEXT`](crate::MAX_TEXT) octets.

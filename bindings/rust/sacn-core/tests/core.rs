@@ -297,8 +297,8 @@ fn a_node() -> Result<(), Error> {
 fn faults_of_setups_and_shows() -> Result<(), Error> {
     let setup = SETUP.replace("universe = 1", "universe = 64000").replacen('\n', "\nudp_port = 0\n", 1);
     let lines = [
-        "udp_port: 0: KeyValue: a UDP port is 1 to 65535",
-        "port[0].universe: 64000: KeyValue: a universe is 1 to 63999",
+        "line 2: udp_port: 0: KeyValue: a UDP port is 1 to 65535",
+        "line 5: port[0].universe: 64000: KeyValue: a universe is 1 to 63999",
     ];
     assert_eq!((setup_faults(SETUP)?, setup_faults(setup)?), (vec![], lines.map(String::from).to_vec()));
     assert_eq!(setup_faults(b"\xff")?, ["NotText: a text is UTF-8"]);
@@ -306,9 +306,9 @@ fn faults_of_setups_and_shows() -> Result<(), Error> {
 
     let show = SHOW.replace("[[1, 65535]]", "[[1, 70000], [2049, 1]]").replace("slot = 1", "slot = 513");
     let lines = [
-        "cue[0].levels[0][1]: 70000: KeyValue: a level is 0 to 65535",
-        "cue[0].levels[1][0]: 2049: Cue ChannelRange: a channel is 1 to 2048",
-        "patch[0].slot: 513: Patch SlotRange: a slot is 1 to 512",
+        "line 9: cue[0].levels[0][1]: 70000: KeyValue: a level is 0 to 65535",
+        "line 9: cue[0].levels[1][0]: 2049: Cue ChannelRange: a channel is 1 to 2048",
+        "line 13: patch[0].slot: 513: Patch SlotRange: a slot is 1 to 512",
     ];
     assert_eq!((show_faults(SHOW)?, show_faults(show)?), (vec![], lines.map(String::from).to_vec()));
     Ok(())
@@ -320,7 +320,7 @@ fn a_hundred_faults_are_told_and_the_rest_counted() -> Result<(), Error> {
     let numbers: Vec<u16> = (64000..64150).collect();
     let faults = show_faults(format!("{head}universes = {numbers:?}\n"))?;
     assert_eq!((faults.len(), faults[100].as_str()), (101, "50 more"));
-    assert_eq!(faults[99], "universes[99]: 64099: KeyValue: a universe is 1 to 63999");
+    assert_eq!(faults[99], "line 4: universes[99]: 64099: KeyValue: a universe is 1 to 63999");
     Ok(())
 }
 
