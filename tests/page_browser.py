@@ -1,6 +1,6 @@
 #!/usr/bin/env python3
 """Looks at the page of a watch: first with 32 viewers, one of which never reads, while 200 universes come at 44 packets a second; then in a headless Chromium,
-against a desk on loopback; then at 30 universes, of which two have alarms; then at the page of a recording, moved by its keys, its alarms and its button. Prints 'ok NAME', 'not ok NAME: why' or 'skipped NAME: why' for each look.
+against a desk on loopback; then at 30 universes, of which two have alarms; then at universes that are chosen late (page_late.py); then at the page of a recording, moved by its keys, its alarms and its button. Prints 'ok NAME', 'not ok NAME: why' or 'skipped NAME: why' for each look.
 
 usage: page_browser.py SACN [PICTURES]
 
@@ -19,6 +19,7 @@ import time
 import urllib.request
 from chromium import Browser, are_seen, packet, start, started, verdict
 import e131
+from page_late import chosen_late
 
 SACN = sys.argv[1]
 PICTURES = sys.argv[2] if len(sys.argv) > 2 else None
@@ -457,6 +458,7 @@ def main():
     try:
         shown(browser, watch)
         many(browser)
+        chosen_late(browser, SACN, UDP, PAGE)
         recorded(browser)
     finally:
         browser.call("DELETE", browser.session)

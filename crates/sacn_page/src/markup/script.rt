@@ -10,11 +10,9 @@ const isRecording = document.documentElement.dataset.shows === 'recording';
 const part = (id) => document.getElementById(id);
 const known = { ms: 0, universe: null, heard: [], sources: new Map(), levels: new Uint8Array(SLOTS), winners: new Uint16Array(SLOTS), alarms: [], leftOut: 0, counts: {} };
 const asked = new URLSearchParams(location.hash.slice(1));
-let past = [];
 let slot = bounded(Number(asked.get('slot')) || 1, 1, SLOTS);
 let unit = 'decimal';
 let isWhole = false;
-let marked = null;
 let events = null;
 let heardAt = -Infinity;
 
@@ -57,14 +55,10 @@ function takeDocument(told) {
   heardAt = performance.now();
   for (const member of ['universe', 'heard', 'counts']) if (told[member] !== undefined) known[member] = told[member];
   for (const source of told.sources || []) known.sources.set(source.place, source);
-  if (told.levels !== undefined) {
-    hex(told.levels, 2, known.levels);
-    // (of a universe that nobody sent on yet there is no level to draw)
-    if (sourcesOf(known.universe).length) past.push({ ms: told.ms, levels: known.levels.slice() });
-    while (past.length > 1 && past[1].ms < told.ms - MINUTE) past.shift();
-  }
-  noteChanges();
+  if (told.levels !== undefined) hex(told.levels, 2, known.levels);
   if (told.winners !== undefined) hex(told.winners, 4, known.winners);
+  noteLevels(told);
+  noteChanges();
   for (const alarm of told.alarms || []) keepAlarm(alarm);
   if (told.alarms) known.leftOut = told.alarms_left_out || 0;
 }
@@ -85,6 +79,7 @@ function open(universe) {
   if (isRecording) return look(universe);
   if (events) events.close();
   past = [];
+  awaitLevels();
   events = new EventSource('/events' + (universe === null ? '' : `?universe=${universe}`));
   events.addEventListener('state', (event) => {
     const before = known.alarms;
@@ -99,10 +94,11 @@ function open(universe) {
     takeDocument(told);
     if (told.sources || told.heard || told.alarms) showUniverses();
     if (told.sources || told.heard) showSources();
-    if (told.levels !== undefined || told.winners !== undefined || told.sources) showLevels();
+    showLevels();
     if (told.alarms) showAlarms();
     showCounts();
   });
+  events.addEventListener('error', awaitLevels);
 }
 
 function showAll() { showUniverses(); showLevels(); showSources(); showAlarms(); showCounts(); showGraph(); }
@@ -158,11 +154,12 @@ function makeGrid() {
     const cell = add(part('grid'), 'div', undefined, 'slot dark');
     cell.id = `slot-${i + 1}`;
     cell.setAttribute('role', 'option');
-    cells.push({ cell, bar: add(cell, 'i'), number: add(cell, 'small', String(i + 1)), letter: add(cell, 'em'), value: add(cell, 'b', '0'), level: -1, winner: -1 });
+    cells.push({ cell, bar: add(cell, 'i'), number: add(cell, 'small', String(i + 1)), letter: add(cell, 'em'), value: add(cell, 'b', shownLevel(-1)), level: -1, winner: -1 });
     cell.addEventListener('click', () => choose(i + 1));
   }
 }
 function shownLevel(level) {
+  if (level < 0) return '-';
   if (unit === 'percent') return String(Math.round(level * 100 / 255));
   return unit === 'hex' ? level.toString(16).padStart(2, '0') : String(level);
 }
@@ -170,17 +167,17 @@ function showLevels() {
   const ranks = new Map(sourcesOf(known.universe).map((source, rank) => [source.place + 1, { rank, source }]));
   put(part('levels-of'), known.universe === null ? '' : `of universe ${known.universe}`);
   for (let i = 0; i < SLOTS; i++) {
-    const level = known.levels[i], winner = known.winners[i], at = cells[i], given = ranks.get(winner);
+    const level = levelOf(i), winner = known.winners[i], at = cells[i], given = ranks.get(winner);
     const key = given ? given.rank : -1;
     if (at.level === level && at.winner === key) continue;
     at.level = level;
     at.winner = key;
-    at.cell.style.setProperty('--level', String(level * 100 / 255));
+    at.cell.style.setProperty('--level', String(Math.max(0, level) * 100 / 255));
     at.cell.style.setProperty('--colour', given ? colourOf(given.rank) : 'var(--none)');
-    at.cell.classList.toggle('dark', level === 0);
+    at.cell.classList.toggle('dark', level <= 0);
     put(at.letter, given ? letterOf(given.rank) : '');
     put(at.value, shownLevel(level));
-    at.cell.setAttribute('aria-label', `Slot ${i + 1}: ${level}` + (given ? `, by ${given.source.name || 'a source without a name'}` : ''));
+    at.cell.setAttribute('aria-label', `Slot ${i + 1}: ${level < 0 ? UNKNOWN : level}` + (given ? `, by ${given.source.name || 'a source without a name'}` : ''));
   }
   showSlot();
 }
@@ -207,9 +204,9 @@ function showSlot() {
     selected = cell;
     part('grid').setAttribute('aria-activedescendant', cell.id);
   }
-  const level = known.levels[slot - 1];
+  const level = levelOf(slot - 1);
   put(part('slot-number'), String(slot));
-  put(part('slot-level'), `${level} of 255, ${Math.round(level * 100 / 255)} %`);
+  put(part('slot-level'), level < 0 ? UNKNOWN : `${level} of 255, ${Math.round(level * 100 / 255)} %`);
 }
 function columns() {
   const top = cells[0].cell.offsetTop;
@@ -226,64 +223,8 @@ part('grid').addEventListener('keydown', (event) => {
 });
 part('units').addEventListener('change', (event) => {
   unit = event.target.value;
-  for (const at of cells) put(at.value, shownLevel(at.level < 0 ? 0 : at.level));
+  for (const at of cells) put(at.value, shownLevel(at.level));
 });
-
-// Which slots had another level since the button was pressed, or since another universe was chosen: also those that have the old one again.
-function markFrom() { return { universe: known.universe, since: isRecording ? spelled(film.at) : clock.format(new Date()), levels: known.levels.slice(), slots: new Set() }; }
-function noteChanges() {
-  if (!marked) return;
-  if (marked.universe !== known.universe) marked = markFrom();
-  for (let i = 0; i < SLOTS; i++) if (known.levels[i] !== marked.levels[i]) marked.slots.add(i);
-  showChanges();
-}
-function showChanges() {
-  cells.forEach((at, i) => at.cell.classList.toggle('changed', marked !== null && marked.slots.has(i)));
-  put(part('changed'), marked ? `${marked.slots.size} changed since ${marked.since}` : '');
-}
-part('since').addEventListener('click', () => {
-  marked = marked ? null : markFrom();
-  part('since').setAttribute('aria-pressed', String(marked !== null));
-  showChanges();
-});
-
-// The chosen slot's level over the last minute, the newest at the right: a level stands until the next one.
-function showGraph() {
-  if (isRecording) return;
-  const canvas = part('graph'), scale = window.devicePixelRatio || 1;
-  const width = canvas.clientWidth, height = canvas.clientHeight;
-  if (canvas.width !== Math.round(width * scale) || canvas.height !== Math.round(height * scale)) {
-    canvas.width = Math.round(width * scale);
-    canvas.height = Math.round(height * scale);
-  }
-  const style = getComputedStyle(document.documentElement), pen = canvas.getContext('2d'), end = heardAt === -Infinity ? 0 : now();
-  const x = (ms) => width * (1 - (end - ms) / MINUTE), y = (level) => 4 + (height - 8) * (1 - level / 255);
-  pen.setTransform(scale, 0, 0, scale, 0, 0);
-  pen.clearRect(0, 0, width, height);
-  pen.strokeStyle = style.getPropertyValue('--line');
-  pen.fillStyle = style.getPropertyValue('--dim');
-  pen.font = '11px system-ui, sans-serif';
-  pen.lineWidth = 1;
-  for (let back = 0; back <= 60; back += 15) {
-    pen.beginPath();
-    pen.moveTo(x(end - back * 1000), 0);
-    pen.lineTo(x(end - back * 1000), height);
-    pen.stroke();
-    if (back && back < 60) pen.fillText(`-${back} s`, x(end - back * 1000) + 3, height - 4);
-  }
-  if (!past.length) return;
-  const rank = cells[slot - 1].winner;
-  pen.strokeStyle = style.getPropertyValue(rank < 0 ? '--dim' : `--s${rank % COLOURS}`);
-  pen.lineWidth = 2;
-  pen.beginPath();
-  past.forEach((at, i) => {
-    const level = at.levels[slot - 1];
-    if (i === 0) pen.moveTo(x(at.ms), y(level)); else pen.lineTo(x(at.ms), y(level));
-    pen.lineTo(x(i + 1 < past.length ? past[i + 1].ms : end), y(level));
-  });
-  pen.stroke();
-  canvas.setAttribute('aria-label', `The level of slot ${slot} over the last minute: now ${known.levels[slot - 1]} of 255`);
-}
 
 const sourceRows = new Map();
 function showSources() {

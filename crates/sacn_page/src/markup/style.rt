@@ -58,7 +58,7 @@ table { border-collapse: collapse; width: 100%; font-variant-numeric: tabular-nu
 caption { text-align: left; position: absolute; clip-path: inset(50%); }
 th, td { text-align: left; padding: .25rem .6rem; border-bottom: 1px solid var(--line); white-space: nowrap; }
 td.number, th.number { text-align: right; } td.name { max-width: 22rem; overflow: hidden; text-overflow: ellipsis; }
-.whole td.name { max-width: none; white-space: normal; overflow-wrap: anywhere; } .whole #universes li { max-width: 100%; } .whole #universes button { white-space: normal; }
+.whole td.name { min-width: 14rem; max-width: none; white-space: normal; overflow-wrap: anywhere; } .whole #universes li { max-width: 100%; } .whole #universes button { white-space: normal; }
 tr.chosen td, tr.chosen th { background: color-mix(in srgb, var(--focus) 8%, transparent); }
 tr.gone { color: var(--dim); } tr.gone td.state { font-weight: 700; } tr.gone td.lost { color: var(--warn); background: var(--warn-ground); } tr.gone .letter { opacity: .4; }
 .letter { display: inline-block; min-width: 1.5em; text-align: center; border-radius: 4px; color: var(--panel); background: var(--colour); font-weight: 700; }
