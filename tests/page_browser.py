@@ -283,15 +283,15 @@ ALIKE = [
     {"ms": 10, "kind": "lost", "text": "universe 1: Desk is lost", "cid": "aa"},
     {"ms": 10, "kind": "lost", "text": "universe 2: Desk is lost", "cid": "bb"},
     {"ms": 20, "kind": "lost", "text": "universe 3: Desk is lost", "cid": "aa"},
-    {"ms": 30, "kind": "rivals", "text": "universe 1: 2 sources share the top priority 100", "cid": "aa", "rival": "bb"},
-    {"ms": 30, "kind": "rivals", "text": "universe 2: 2 sources share the top priority 100", "cid": "aa", "rival": "cc"},
-    {"ms": 40, "kind": "rivals", "text": "universe 3: 2 sources share the top priority 100", "cid": "aa", "rival": "bb"},
+    {"ms": 30, "kind": "rivals", "text": "universe 1: Desk 0001..0f and Desk 0001..0f both send at priority 100", "cid": "aa", "rival": "bb"},
+    {"ms": 30, "kind": "rivals", "text": "universe 2: Desk 0001..0f and Desk 0001..0f both send at priority 100", "cid": "aa", "rival": "cc"},
+    {"ms": 40, "kind": "rivals", "text": "universe 3: Desk 0001..0f and Desk 0001..0f both send at priority 100", "cid": "aa", "rival": "bb"},
 ]
 LINES = [
     "universes 1, 3: Desk is lost",
     "universe 2: Desk is lost",
-    "universes 1, 3: 2 sources share the top priority 100",
-    "universe 2: 2 sources share the top priority 100",
+    "universes 1, 3: Desk 0001..0f and Desk 0001..0f both send at priority 100",
+    "universe 2: Desk 0001..0f and Desk 0001..0f both send at priority 100",
 ]
 MARKED = f"{TILES}.filter((tile) => [...tile.querySelectorAll('[title=alarm]')].some((mark) => mark.getClientRects().length)).map((tile) => parseInt(tile.textContent))"
 NAMED = f"{TILES}.filter((tile) => / alarm,/.test(tile.firstChild.getAttribute('aria-label'))).map((tile) => parseInt(tile.textContent))"

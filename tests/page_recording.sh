@@ -164,7 +164,7 @@ has "one source on universe 1 at 499 ms" "$both" '"name":"\u003cb\u003eMain \u00
 answers "the state with both" 200 "$at/state?at=500"
 # (the packet of 400 ms is taken at 500, the latest moment so far; its numbers 1 to 3 were skipped)
 has "both sources at 500 ms" '"name":"Spare","address":"10.0.0.2","port":5000,"state":"sending"' "\"levels\":\"3020$(zeros 1020)\"" "\"winners\":\"00150001$(zeros 2040)\"" \
-  '{"ms":500,"kind":"rivals","text":"universe 1: 2 sources share the top priority 100","cid":"'"$main"'","rival":"'"$spare"'"}' \
+  '{"ms":500,"kind":"rivals","text":"universe 1: \u003cb\u003eMain \u0026 more aaaa..aa and Spare bbbb..bb both send at priority 100","cid":"'"$main"'","rival":"'"$spare"'"}' \
   '{"ms":500,"kind":"skipped","text":"universe 1: \u003cb\u003eMain \u0026 more skipped 3 numbers","cid":"'"$main"'"}' '"counts":{"datagrams":22,'
 lost='{"ms":3000,"kind":"lost","text":"universe 1: Spare is lost","cid":"'"$spare"'"}'
 answers "a moment before the losses" 200 "$at/state?at=2599"

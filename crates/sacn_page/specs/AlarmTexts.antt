@@ -1,13 +1,15 @@
 -- What is said of the things that went wrong.
 use Rattle.std.specs.List.{join_by}
-use Rattle.std.specs.Prelude.{ℕ, ◌-◌, ◌==◌, List, [], ◌++◌, length, codes, decimal, slice_get, option_and_then, Option, None, Some, if◌then◌else◌}
+use Rattle.std.specs.Prelude.{ℕ, ◌-◌, ◌==◌, ◌&&◌, Bool, List, [], ◌++◌, length, codes, decimal, find, slice_get, option_and_then, Option, None, Some, if◌then◌else◌}
+use Rattle.std.specs.Str.{bytes_eq}
 use Rattle.sacn_packets.specs.declared.root.fault.PacketFault.{PacketFault}
 use Rattle.sacn_monitor.specs.declared.account.Endpoint.{Endpoint}
 use Rattle.sacn_monitor.specs.declared.stream.Stream.{Stream}
+use Rattle.sacn_network.specs.declared.occurrence.Contest.{Contest}
 use Rattle.sacn_tell.specs.Foreign.{foreign_text}
 use Rattle.sacn_tell.specs.Members.{key_text, name_of, number_member, word_member}
 use Rattle.sacn_tell.specs.Refusals.{fault_words}
-use Rattle.sacn_tell.specs.Sentences.{stop_words}
+use Rattle.sacn_tell.specs.Sentences.{short_cid, stop_words}
 use Rattle.sacn_tell.specs.Spelling.{sender_text}
 use Rattle.sacn_page.specs.declared.alarms.Alarm.{Alarm}
 use Rattle.sacn_page.specs.declared.alarms.Pair.{Pair}
@@ -45,21 +47,49 @@ skipped_words count = if count == 1 then codes " skipped a number" else codes " 
 unfoldable pub refused_words : Endpoint → PacketFault → List ℕ
 refused_words sender fault = codes "a datagram of " ++ (sender_text sender ++ (codes " is refused: " ++ fault_words fault))
 
--- that sources share the top priority of a universe (E1.31, 6.2.3)
-unfoldable pub rivals_words : ℕ → ℕ → ℕ → List ℕ
-rivals_words universe sources priority =
-    codes "universe " ++ (decimal universe ++ (codes ": " ++ (decimal sources ++ (codes " sources share the top priority " ++ decimal priority))))
+-- a source's stream on a universe
+abbrev pub is_stream_of : ℕ → List ℕ → Stream → Bool
+is_stream_of universe cid s = (s.universe == universe) && bytes_eq s.cid cid
 
--- what a person reads of it
-abbrev pub trouble_words : Trouble → List ℕ
-trouble_words (Lost place) = codes " is lost"
-trouble_words (Ended place) = codes " ended its stream"
-trouble_words (CameBack place) = codes " is back"
-trouble_words (Skipped place count) = skipped_words count
-trouble_words (Late place) = codes " sent a packet out of sequence"
-trouble_words (Refused sender fault) = refused_words sender fault
-trouble_words (Stopped millis) = stop_words millis
-trouble_words (Rivals contest pair) = rivals_words contest.universe contest.sources contest.priority
+abbrev pub name_in : Option Stream → List ℕ
+name_in None = []
+name_in (Some s) = foreign_text (name_of s)
+
+-- one that contests a universe: its name there (E1.31, 6.2.2) and its CID in short
+unfoldable pub rival_text : List Stream → ℕ → List ℕ → List ℕ
+rival_text streams universe cid = name_in (find (is_stream_of universe cid) streams) ++ (codes " " ++ short_cid cid)
+
+-- what stands between the two that are named, and behind them: how many more there are
+abbrev pub between_words : ℕ → List ℕ
+between_words others = if others == 0 then codes " and " else codes ", "
+
+unfoldable pub others_words : ℕ → List ℕ
+others_words others = if others == 0 then codes " both" else codes " and " ++ (decimal others ++ codes " more")
+
+unfoldable pub pair_text : List Stream → Contest → Pair → List ℕ
+pair_text streams c p =
+    rival_text streams c.universe p.first ++ (between_words (c.sources - 2) ++ (rival_text streams c.universe p.second ++ others_words (c.sources - 2)))
+
+-- who they are, by the first two; how many, where these aren't known
+abbrev pub rivals_text : List Stream → Contest → Option Pair → List ℕ
+rivals_text streams c None = decimal c.sources ++ codes " sources"
+rivals_text streams c (Some p) = pair_text streams c p
+
+-- that sources share the top priority of a universe (E1.31, 6.2.3)
+unfoldable pub rivals_words : List Stream → Contest → Option Pair → List ℕ
+rivals_words streams c pair =
+    codes "universe " ++ (decimal c.universe ++ (codes ": " ++ (rivals_text streams c pair ++ (codes " send at priority " ++ decimal c.priority))))
+
+-- what a person reads of it, where these are the streams
+abbrev pub trouble_words : List Stream → Trouble → List ℕ
+trouble_words streams (Lost place) = codes " is lost"
+trouble_words streams (Ended place) = codes " ended its stream"
+trouble_words streams (CameBack place) = codes " is back"
+trouble_words streams (Skipped place count) = skipped_words count
+trouble_words streams (Late place) = codes " sent a packet out of sequence"
+trouble_words streams (Refused sender fault) = refused_words sender fault
+trouble_words streams (Stopped millis) = stop_words millis
+trouble_words streams (Rivals contest pair) = rivals_words streams contest pair
 
 -- a source by its universe and name (E1.31, 6.2.2)
 unfoldable pub source_words : Stream → List ℕ
@@ -108,7 +138,7 @@ alarm_front a = first_number (codes "ms") a.moment ++ word_member (codes "kind")
 -- a thing that happened at a moment, as an object
 unfoldable pub alarm_object : List Stream → Alarm → List ℕ
 alarm_object streams a =
-    alarm_front a ++ (codes ",\"text\":\"" ++ (about streams a.trouble ++ (trouble_words a.trouble ++ (codes "\"" ++ (cids streams a.trouble ++ codes "}")))))
+    alarm_front a ++ (codes ",\"text\":\"" ++ (about streams a.trouble ++ (trouble_words streams a.trouble ++ (codes "\"" ++ (cids streams a.trouble ++ codes "}")))))
 
 -- with commas between them
 abbrev pub alarm_list : List Stream → List Alarm → List ℕ

@@ -1,14 +1,16 @@
 //! What a viewer reads of the latest things that went wrong.
 
-ghost use Rattle.std.specs.Prelude.{◌≡◌, ◌++◌, OnOk, slice_get, string_bytes};
-ghost use Rattle.sacn_page.specs.AlarmTexts.{about, about_cid, alarm_front, alarm_list, alarm_object, alarms_member, cid_of, cids, contest_cids, kind_word, left_out_member, named, pair_in, pair_members, place_of, refused_words, rivals_words, skipped_words, source_words, trouble_words};
+ghost use Rattle.std.specs.Prelude.{◌≡◌, ◌++◌, OnOk, find, option_copied, slice_get, string_bytes};
+ghost use Rattle.sacn_page.specs.AlarmTexts.{about, about_cid, alarm_front, alarm_list, alarm_object, alarms_member, between_words, cid_of, cids, contest_cids, is_stream_of, kind_word, left_out_member, name_in, named, others_words, pair_in, pair_members, pair_text, place_of, refused_words, rival_text, rivals_text, rivals_words, skipped_words, source_words, trouble_words};
 
 use crate::alarms::{Alarm, Alarms, Pair, Trouble};
 use crate::members::{push_digits_member, push_first_number};
 use sacn_monitor::{Endpoint, Stream};
+use sacn_network::Contest;
 use sacn_packets::{PacketFault, up_to_nul};
 use sacn_tell::{
-    fault_words, push_foreign, push_key, push_number, push_sender, push_stop, push_word,
+    fault_words, push_foreign, push_key, push_number, push_sender, push_short_cid, push_stop,
+    push_word,
 };
 use std::alloc::AllocError;
 use std::fmt::Write;
@@ -54,10 +56,10 @@ impl Trouble {
         }
     }
 
-    // What a person reads.
-    fn push_words(&self, text: &mut String) -> Result<(), AllocError>
-        ensures { OnOk result
-            (string_bytes text.new ≡ string_bytes text.old ++ trouble_words self.now) }
+    // What a person reads, where these are the streams.
+    fn push_words(&self, text: &mut String, streams: &[Stream]) -> Result<(), AllocError>
+        ensures { OnOk result (string_bytes text.new
+            ≡ string_bytes text.old ++ trouble_words streams.now self.now) }
     {
         match self {
             Trouble::Lost(_) => text.push_str(" is lost"),
@@ -67,9 +69,7 @@ impl Trouble {
             Trouble::Late(_) => text.push_str(" sent a packet out of sequence"),
             Trouble::Refused(sender, fault) => push_refused(text, sender, *fault),
             Trouble::Stopped(millis) => push_stop(text, *millis),
-            Trouble::Rivals(contest, _) => {
-                push_rivals(text, contest.universe, contest.sources, contest.priority)
-            }
+            Trouble::Rivals(contest, pair) => push_rivals(text, contest, *pair, streams),
         }
     }
 }
@@ -99,17 +99,116 @@ fn push_refused(text: &mut String, sender: &Endpoint, fault: PacketFault) -> Res
 #[tactic(auto, unfolding(crate::specs::AlarmTexts::rivals_words))]
 fn push_rivals(
     text: &mut String,
-    universe: u16,
-    sources: usize,
-    priority: u8,
+    contest: &Contest,
+    pair: Option<Pair>,
+    streams: &[Stream],
 ) -> Result<(), AllocError>
     ensures { OnOk result (string_bytes text.new
-        ≡ string_bytes text.old ++ rivals_words universe sources priority) }
+        ≡ string_bytes text.old ++ rivals_words streams.now contest.now pair) }
 {
-    write!(
-        text,
-        "universe {universe}: {sources} sources share the top priority {priority}"
-    )
+    let Contest {
+        universe,
+        priority,
+        ..
+    } = *contest;
+    write!(text, "universe {universe}: ")?;
+    push_contestants(text, contest, pair, streams)?;
+    write!(text, " send at priority {priority}")
+}
+
+// Who they are, where the first two of them are known; else how many.
+fn push_contestants(
+    text: &mut String,
+    contest: &Contest,
+    pair: Option<Pair>,
+    streams: &[Stream],
+) -> Result<(), AllocError>
+    ensures { OnOk result (string_bytes text.new
+        ≡ string_bytes text.old ++ rivals_text streams.now contest.now pair) }
+{
+    let sources = contest.sources;
+    match pair {
+        Some(pair) => push_pair_text(text, contest, &pair, streams),
+        None => write!(text, "{sources} sources"),
+    }
+}
+
+#[tactic(auto, unfolding(crate::specs::AlarmTexts::pair_text))]
+fn push_pair_text(
+    text: &mut String,
+    contest: &Contest,
+    pair: &Pair,
+    streams: &[Stream],
+) -> Result<(), AllocError>
+    ensures { OnOk result (string_bytes text.new
+        ≡ string_bytes text.old ++ pair_text streams.now contest.now pair.now) }
+{
+    let others = contest.sources.saturating_sub(2);
+    push_rival(text, streams, contest.universe, &pair.first)?;
+    push_between(text, others)?;
+    push_rival(text, streams, contest.universe, &pair.second)?;
+    push_others(text, others)
+}
+
+fn push_between(text: &mut String, others: usize) -> Result<(), AllocError>
+    ensures { OnOk result
+        (string_bytes text.new ≡ string_bytes text.old ++ between_words others) }
+{
+    match others {
+        0 => text.push_str(" and "),
+        _ => text.push_str(", "),
+    }
+}
+
+#[tactic(auto, unfolding(crate::specs::AlarmTexts::others_words))]
+fn push_others(text: &mut String, others: usize) -> Result<(), AllocError>
+    ensures { OnOk result
+        (string_bytes text.new ≡ string_bytes text.old ++ others_words others) }
+{
+    match others {
+        0 => text.push_str(" both"),
+        others => write!(text, " and {others} more"),
+    }
+}
+
+// A source by its name on a universe and its CID in short.
+#[tactic(auto, unfolding(crate::specs::AlarmTexts::rival_text))]
+fn push_rival(
+    text: &mut String,
+    streams: &[Stream],
+    universe: u16,
+    cid: &[u8; 16],
+) -> Result<(), AllocError>
+    ensures { OnOk result (string_bytes text.new
+        ≡ string_bytes text.old ++ rival_text streams.now universe cid.now) }
+{
+    push_name_in(text, stream_of(streams, universe, cid))?;
+    text.push_str(" ")?;
+    push_short_cid(text, cid)
+}
+
+fn push_name_in(text: &mut String, stream: Option<&Stream>) -> Result<(), AllocError>
+    ensures { OnOk result (string_bytes text.new
+        ≡ string_bytes text.old ++ name_in (option_copied stream.entry)) }
+{
+    match stream {
+        Some(stream) => push_foreign(text, up_to_nul(&stream.account.name)),
+        None => Ok(()),
+    }
+}
+
+fn stream_of<'s>(streams: &'s [Stream], universe: u16, cid: &[u8; 16]) -> Option<&'s Stream>
+    ensures { option_copied result ≡ find (is_stream_of universe cid.now) streams.now }
+{
+    streams
+        .iter()
+        .find(|stream| is_stream_of(universe, cid, stream))
+}
+
+fn is_stream_of(universe: u16, cid: &[u8; 16], stream: &Stream) -> bool
+    ensures { result ≡ is_stream_of universe cid.now stream.now }
+{
+    (stream.universe == universe) & (stream.cid == *cid)
 }
 
 /// The alarms behind the first so many, as far as they are kept, and how many aren't.
@@ -165,7 +264,7 @@ fn push_alarm(text: &mut String, alarm: &Alarm, streams: &[Stream]) -> Result<()
     push_front(text, alarm)?;
     text.push_str(",\"text\":\"")?;
     push_about(text, &alarm.trouble, streams)?;
-    alarm.trouble.push_words(text)?;
+    alarm.trouble.push_words(text, streams)?;
     text.push('"')?;
     push_cids(text, &alarm.trouble, streams)?;
     text.push('}')
