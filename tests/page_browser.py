@@ -1,6 +1,8 @@
 #!/usr/bin/env python3
-"""Looks at the page of a watch: first with 32 viewers, one of which never reads, while 200 universes come at 44 packets a second; then in a headless Chromium,
-against a desk on loopback; then at 30 universes, of which two have alarms; then at universes that are chosen late (page_late.py); then at the page of a recording, moved by its keys, its alarms and its button. Prints 'ok NAME', 'not ok NAME: why' or 'skipped NAME: why' for each look.
+"""Looks at the page of a watch: first with 32 viewers, one of which never reads, while 200 universes come at 44 packets
+a second; then in a headless Chromium, against a desk on loopback; then at 30 universes, of which two have alarms; then
+at universes that are chosen late (page_late.py); then at the page of a recording, moved by its keys, its alarms and its
+button. Prints 'ok NAME', 'not ok NAME: why' or 'skipped NAME: why' for each look.
 
 usage: page_browser.py SACN [PICTURES]
 
