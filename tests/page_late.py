@@ -73,8 +73,10 @@ class Rig:
         with self.lock:
             self.levels[(universe, cid)] = (bytearray([level] * 512), name)
 
-    def send(self, universe, cid=ONE, start=0):
+    def send(self, universe, cid=ONE, start=0, is_turn=False):
         with self.lock:
+            if is_turn and universe in self.resting:
+                return
             levels, name = self.levels[(universe, cid)]
             number = self.numbers.get((universe, cid), 0)
             self.numbers[(universe, cid)] = number + 1
@@ -89,13 +91,14 @@ class Rig:
 
     def run(self):
         while True:
-            for universe in {own for own, _ in list(self.levels)} - self.resting:
-                self.sends(universe)
+            for universe, cid in list(self.levels):
+                self.send(universe, cid, is_turn=True)
             time.sleep(0.5)
 
     def rest(self, universe):
         """From here on its sources send what a look sends, and now once more."""
-        self.resting.add(universe)
+        with self.lock:
+            self.resting.add(universe)
         self.sends(universe)
         return time.monotonic()
 
