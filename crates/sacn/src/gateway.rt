@@ -2,9 +2,8 @@
 use crate::auditing::{Auditing, Unviewed};
 use crate::frames::{Unprinted, lines_of, run_printing};
 use crate::judged::judged_of;
-use crate::keys::ScreenKeys;
 use crate::port::{Sharer, keep_alone};
-use crate::screen::{hands_keys, screen_of, size_file};
+use crate::screen::{ScreenKeys, hands_keys, screen_of, size_file};
 use crate::shown::Shown;
 use crate::source_lines::Spoken;
 use crate::timed::{Age, BelatedOutlet, TimedOutlet, TimedOutputs, timing_of, zone_of};

@@ -18,7 +18,7 @@ use std::io::{self, Write};
 pub fn tell_heard<I: Listener, O: Write, L: Write>(
     alloc: Global,
     listener: &mut I,
-    asked: &WatchAsked,
+    asked: &WatchAsked<'_>,
     until: u64,
     (out, late): (&mut O, &mut L),
     present: &Present,
@@ -36,7 +36,7 @@ pub fn tell_heard<I: Listener, O: Write, L: Write>(
 fn tell_audit<I: Listener, O: Write>(
     alloc: Global,
     listener: &mut I,
-    asked: &WatchAsked,
+    asked: &WatchAsked<'_>,
     until: u64,
     out: &mut O,
 ) -> Result<(), WatchFault> {
@@ -56,7 +56,7 @@ fn of_output(written: io::Result<()>) -> Result<(), WatchFault> {
 fn tell_each<I: Listener, O: Write>(
     alloc: Global,
     listener: &mut I,
-    asked: &WatchAsked,
+    asked: &WatchAsked<'_>,
     until: u64,
     out: &mut O,
 ) -> Result<(), WatchFault> {
@@ -72,7 +72,7 @@ fn tell_each<I: Listener, O: Write>(
 fn tell_incidents<I: Listener, L: Write>(
     alloc: Global,
     listener: &mut I,
-    asked: &WatchAsked,
+    asked: &WatchAsked<'_>,
     until: u64,
     late: &mut L,
     present: &Present,

@@ -3,13 +3,13 @@
 
 mod audit;
 mod auditing;
+mod black_box;
 mod check;
 mod explain;
 mod frames;
 mod gateway;
 mod heard;
 mod judged;
-mod keys;
 mod manual;
 mod page;
 mod piped;
@@ -22,7 +22,6 @@ mod replay;
 mod screen;
 mod shown;
 mod source_lines;
-mod tapes;
 mod timed;
 mod watch;
 

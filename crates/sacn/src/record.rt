@@ -3,14 +3,15 @@
 ghost use Rattle.std.specs.Prelude.{◌≤◌, length};
 
 use crate::port::Sharer;
-use crate::tapes::{FileTapes, Names};
 use crate::watch::{Place, receiver_at};
 use sacn_commands::ending::{DEVICE_FAILED, Ending};
 use sacn_commands::live::{joined_groups, say_hearing};
 use sacn_machine::{
     Arrival, ClockFront, Drops, Lines, Outputs, Receiver, UdpReceiver, guard_standard_descriptors,
 };
-use sacn_record::{Arrived, Caught, LONGEST_PAYLOAD, RecordPlan, Totals, Wire, run_record};
+use sacn_record::{
+    Arrived, Caught, FileTapes, LONGEST_PAYLOAD, Names, RecordPlan, Totals, Wire, run_record,
+};
 use sacn_words::{RECORDER, RecordAsked, moment_of};
 use std::env::Env;
 use std::io::{ErrorKind, Write};
@@ -19,7 +20,7 @@ use std::rt::{Clock, Files};
 use std::time::SystemTime;
 
 /// The milliseconds of a minute.
-const MINUTE: u64 = 60_000;
+pub const MINUTE: u64 = 60_000;
 
 /// Records a network.
 pub fn record<R: AllocGlobal + Files + Env + Net + Clock, E: Write>(
@@ -70,18 +71,21 @@ fn record_at<'a, R: AllocGlobal + Files + Env + Net + Clock, E: Write>(
     ending
 }
 
+/// The address that datagrams to no group were sent to, where this one is listened at.
+pub fn host_of(listen: Ipv4Addr) -> [u8; 4] {
+    if listen == Ipv4Addr::UNSPECIFIED {
+        return Ipv4Addr::LOCALHOST.octets();
+    }
+    listen.octets()
+}
+
 // What is asked of the recorder.
 fn plan_of<'a>(asked: &'a RecordAsked<'_>) -> RecordPlan<'a>
     ensures { length result.program.now ≤ 64 }
 {
-    let host = if asked.listen == Ipv4Addr::UNSPECIFIED {
-        Ipv4Addr::LOCALHOST
-    } else {
-        asked.listen
-    };
     RecordPlan {
         program: RECORDER,
-        host: host.octets(),
+        host: host_of(asked.listen),
         port: asked.port,
         universes: asked.universes.as_slice(),
         longest: match asked.ring {
@@ -91,8 +95,8 @@ fn plan_of<'a>(asked: &'a RecordAsked<'_>) -> RecordPlan<'a>
     }
 }
 
-// Says which files a ring has.
-fn say_ring<E: Write>(names: &Names<'_>, ring: Option<u64>, err: &mut E) {
+/// Says which files a ring has.
+pub fn say_ring<E: Write>(names: &Names<'_>, ring: Option<u64>, err: &mut E) {
     if let (Some(minutes), Some(older)) = (ring, names.older()) {
         let newest = names.newest();
         let word = if minutes == 1 { "minute" } else { "minutes" };
@@ -111,8 +115,8 @@ fn ending_of<E: Write>(kind: ErrorKind, path: &str, err: &mut E) -> Ending {
     }
 }
 
-// Says that a recording can't be written, and why, and returns how the run ends.
-fn say_unwritten<E: Write>(path: &str, kind: ErrorKind, err: &mut E) -> Ending {
+/// Says that a recording can't be written, and why, and returns how the run ends.
+pub fn say_unwritten<E: Write>(path: &str, kind: ErrorKind, err: &mut E) -> Ending {
     let _ = writeln!(err, "device write {path} {kind:?}");
     if let Some(advice) = advice_of(kind) {
         let _ = writeln!(err, "{advice}");
@@ -130,6 +134,7 @@ fn advice_of(kind: ErrorKind) -> Option<&'static str> {
         ErrorKind::PermissionDenied => {
             Some("who runs this may not write there: choose a folder of your own")
         }
+        ErrorKind::TimedOut => Some("the disk is too slow for what is heard: choose another one"),
         ErrorKind::StorageFull => { Some("the disk is full: what was recorded before can be read") }
         _ => None,
     }
@@ -194,8 +199,8 @@ impl<'a, R: Net + Clock> LiveWire<'a, R> {
     }
 }
 
-// The microseconds since 1970.
-fn micros<R: Clock>(rt: &R) -> Option<u64> {
+/// The microseconds since 1970.
+pub fn micros<R: Clock>(rt: &R) -> Option<u64> {
     let now = SystemTime::now(rt).ok()?;
     let passed = now.duration_since(SystemTime::UNIX_EPOCH).ok()?;
     u64::try_from(passed.as_micros()).ok()

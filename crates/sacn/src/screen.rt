@@ -1,10 +1,12 @@
 //! A watch on a terminal.
-use crate::keys::ScreenKeys;
 use sacn_commands::files::text_of_file;
 use sacn_commands::live::joined_groups;
 use sacn_files::words::short_in;
-use sacn_machine::say_silence;
-use sacn_watch::{Listener, MIN_WAIT, Screen, Size, Sizes, Terminal, WatchFault, watch_terminal};
+use sacn_machine::{MAX_KEYS, Typed, TypedKeys, say_silence};
+use sacn_watch::{
+    Keyboard, Leaving, Listener, MIN_WAIT, Screen, Size, Sizes, Terminal, WatchFault,
+    watch_terminal,
+};
 use sacn_words::WatchAsked;
 use std::alloc::{Alloc, AllocError};
 use std::env::{self, Env};
@@ -18,6 +20,39 @@ const MAX_EXTENT: u16 = 1000;
 
 /// Where the launcher keeps the size: in a file without a name, which is one of the program's descriptors.
 const DESCRIPTORS: &str = "/proc/self/fd/";
+
+/// The keys that come to a screen, where any do, and what ends by one of them.
+#[derive(Clone, Copy, Drop)]
+pub struct ScreenKeys<'k> {
+    pub keys: Option<&'k TypedKeys>,
+    pub leaving: Option<&'k Leaving>,
+}
+
+impl<'k> Keyboard for ScreenKeys<'k> {
+    fn read(&mut self, octets: &mut [u8; MAX_KEYS]) -> Typed {
+        match self.keys {
+            Some(keys) => keys.read(octets),
+            None => Typed::End,
+        }
+    }
+
+    fn is_open(&self) -> bool {
+        match self.keys {
+            Some(keys) => keys.are_open(),
+            None => false,
+        }
+    }
+
+    fn may_leave(&self) -> bool {
+        self.leaving.is_some()
+    }
+
+    fn leave(&mut self) {
+        if let Some(leaving) = self.leaving {
+            leaving.ask();
+        }
+    }
+}
 
 /// The size that the launcher keeps in a file, `ROWS COLUMNS`, where it does.
 #[derive(Drop)]
@@ -46,7 +81,7 @@ impl<'r, 'p, R: AllocGlobal + Files> Sizes for KeptSize<'r, 'p, R> {
 pub fn show<R: AllocGlobal + Files + Env, L: Listener, O: Write>(
     rt: &R,
     listener: &mut L,
-    asked: &WatchAsked,
+    asked: &WatchAsked<'_>,
     keys: ScreenKeys<'_>,
     until: u64,
     out: &mut O,

@@ -1,10 +1,9 @@
 //! A network watched.
 use crate::heard::tell_heard;
-use crate::keys::ScreenKeys;
-use crate::page::serve;
+use crate::page::{serve, serve_recalled};
 use crate::piped::Piped;
 use crate::port::{Sharer, keep_alone};
-use crate::screen::{hands_keys, show};
+use crate::screen::{ScreenKeys, hands_keys, show};
 use crate::timed::{Age, TimedOutputs, timing_of, zone_of};
 use sacn_clock::Present;
 use sacn_commands::ending::Ending;
@@ -43,7 +42,7 @@ pub struct Place {
 /// Watches a network.
 pub fn watch<R: AllocGlobal + Files + Env + Net + Clock, O: Write, E: Write>(
     rt: &R,
-    asked: &WatchAsked,
+    asked: &WatchAsked<'_>,
     out: &mut O,
     err: &mut E,
 ) -> Result<(), Ending> {
@@ -56,7 +55,10 @@ pub fn watch<R: AllocGlobal + Files + Env + Net + Clock, O: Write, E: Write>(
     let until = moment_of(asked.seconds);
     if let Some(page) = asked.page {
         let universe = asked.universes.first().copied();
-        return serve(rt, place, page, universe, until, err);
+        return match asked.ring {
+            Some(ring) => serve_recalled(rt, place, page, universe, ring, until, err),
+            None => serve(rt, place, page, universe, until, err),
+        };
     }
     if asked.wants_lines() || !output_is_terminal() {
         return tell(rt, place, asked, until);
@@ -68,7 +70,7 @@ pub fn watch<R: AllocGlobal + Files + Env + Net + Clock, O: Write, E: Write>(
 fn show_at<R: AllocGlobal + Files + Env + Net + Clock, O: Write, E: Write>(
     rt: &R,
     place: Place,
-    asked: &WatchAsked,
+    asked: &WatchAsked<'_>,
     until: u64,
     out: &mut O,
     err: &mut E,
@@ -81,7 +83,7 @@ fn show_at<R: AllocGlobal + Files + Env + Net + Clock, O: Write, E: Write>(
 fn show_steered<'a, R: AllocGlobal + Files + Env + Net + Clock, O: Write, E: Write>(
     rt: &'a R,
     place: Place,
-    asked: &WatchAsked,
+    asked: &WatchAsked<'_>,
     until: u64,
     (keys, leaving): (&'a TypedKeys, &'a Leaving),
     (out, err): (&mut O, &mut E),
@@ -111,7 +113,7 @@ fn has_input(keys: &TypedKeys) -> bool {
 fn tell<R: AllocGlobal + Files + Env + Net + Clock>(
     rt: &R,
     place: Place,
-    asked: &WatchAsked,
+    asked: &WatchAsked<'_>,
     until: u64,
 ) -> Result<(), Ending> {
     let mut clock = clock_of(rt)?;
@@ -149,7 +151,7 @@ fn tell<R: AllocGlobal + Files + Env + Net + Clock>(
 fn tell_timed<'a, R: AllocGlobal + Net + Env + Clock>(
     rt: &'a R,
     place: Place,
-    asked: &WatchAsked,
+    asked: &WatchAsked<'_>,
     until: u64,
     outputs: &TimedOutputs<'a, R>,
     present: &'a Present,
@@ -168,7 +170,7 @@ fn tell_timed<'a, R: AllocGlobal + Net + Env + Clock>(
 fn tell_on<'a, R: AllocGlobal + Net + Clock, O: Write, L: Write>(
     rt: &'a R,
     place: Place,
-    asked: &WatchAsked,
+    asked: &WatchAsked<'_>,
     until: u64,
     (outputs, joined, front): (&'a Outputs, Option<String>, ClockFront),
     (out, late): (&mut O, &mut L),

@@ -65,11 +65,16 @@ abbrev pub start_member : Option ℕ → List ℕ
 start_member None = codes ",\"start\":null"
 start_member (Some start) = number_member (codes "start") start
 
+-- the first moment that is kept of it, where not all is
+abbrev pub from_member : Option ℕ → List ℕ
+from_member None = []
+from_member (Some from) = number_member (codes "from") from
+
 -- what is known of a recording as a whole
 unfoldable pub facts_object : Facts → List ℕ
 facts_object f =
     codes "{\"name\":" ++ (quoted (foreign_text (string_bytes f.name)) ++ (number_member (codes "length") f.length
-    ++ (start_member f.start ++ (fault_member f.fault ++ codes "}"))))
+    ++ (start_member f.start ++ (fault_member f.fault ++ (from_member f.from ++ codes "}")))))
 
 -- which source it is on which universe, and where it sends from
 unfoldable pub source_members : Stream → List ℕ

@@ -41,6 +41,8 @@ pub struct Audience<C: Drop, S: Scene + Drop> {
     is_behind: bool,
     /// How many have asked for a moment of the recording.
     turns: u64,
+    /// The key of the connection that is asked first whether it takes a part of the recording.
+    taker: usize,
 }
 
 impl<C: Connection + Drop, S: Scene + Drop> Audience<C, S> {
@@ -58,6 +60,7 @@ impl<C: Connection + Drop, S: Scene + Drop> Audience<C, S> {
             first: 0,
             is_behind: false,
             turns: 0,
+            taker: 0,
         })
     }
 
@@ -259,10 +262,12 @@ impl<C: Connection + Drop, S: Scene + Drop> Audience<C, S> {
     pub fn show(&mut self, now: u64) {
         self.close_late(now);
         self.seek(now);
+        self.hand_on(now);
         self.is_behind = self.feed_viewers(now);
     }
 
-    // Answers those who wait for a moment of the recording, the first that asked first, as far as one turn reads.
+    // Answers those who wait for a moment of the recording, the first that asked first, as far as one turn reads: of a network that is heard meanwhile,
+    // one of them.
     fn seek(&mut self, now: u64) {
         for _ in 0..MAX_CONNECTIONS {
             let Some((key, goal)) = self.first_waiting() else {
@@ -272,6 +277,9 @@ impl<C: Connection + Drop, S: Scene + Drop> Audience<C, S> {
                 Ok(true) => self.answer_goal(key, goal, Ok(()), now),
                 Ok(false) => return,
                 Err(fault) => self.answer_goal(key, goal, Err(fault), now),
+            }
+            if self.scene.is_kept() {
+                return;
             }
         }
     }
@@ -298,9 +306,11 @@ impl<C: Connection + Drop, S: Scene + Drop> Audience<C, S> {
             return;
         };
         let answered = match sought {
-            Ok(()) => show_moment(self.alloc, &self.scene, viewer, goal.universe, now),
-            Err(SeekFault::OutOfMemory) => refuse(self.alloc, viewer, RequestRefusal::Busy, now),
-            Err(SeekFault::Device) => refuse(self.alloc, viewer, RequestRefusal::Unread, now),
+            Ok(()) => {
+                let sought = (self.scene.sought_facts(), self.scene.sought_board());
+                show_moment(self.alloc, sought, viewer, goal.universe, now)
+            }
+            Err(fault) => refuse(self.alloc, viewer, RequestRefusal::from(fault), now),
         };
         if answered.is_err() || viewer.phase() == Phase::Gone {
             let _ = self.viewers.try_remove(key);
@@ -329,8 +339,10 @@ impl<C: Connection + Drop, S: Scene + Drop> Audience<C, S> {
         for key in 0..MAX_CONNECTIONS {
             if let Some(viewer) = self.viewers.get(key) {
                 least = least.min(viewer.deadline()).min(self.next_event(viewer));
-                if let Phase::Waiting(_) = viewer.phase() {
-                    least = 0;
+                match viewer.phase() {
+                    Phase::Waiting(_) => least = 0,
+                    Phase::Taking(_) if viewer.is_idle() => least = 0,
+                    _ => {}
                 }
             }
         }

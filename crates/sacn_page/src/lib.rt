@@ -35,6 +35,6 @@ pub use request::{
     MAX_FIELDS, MAX_HEAD, RequestReading, RequestRefusal, Target, has_body, is_own, read_request,
 };
 pub use response::{MediaType, event_stream_head, push_event, refusal_response, whole};
-pub use scene::{Facts, Scene, SeekFault};
+pub use scene::{Copying, Facts, FilePlace, Scene, SeekFault, Window};
 pub use server::{Pages, Quiet};
 pub use viewer::{Connection, Goal, HEAD_TIME, LEAVE_TIME, Phase, STALL_TIME, Viewer};

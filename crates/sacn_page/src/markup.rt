@@ -6,7 +6,7 @@ mod script;
 mod style;
 
 use crate::markup::body::BODY;
-use crate::markup::player::{INCIDENTS, PLAYER};
+use crate::markup::player::{INCIDENTS, PLAYER, REACH};
 use crate::markup::script::SCRIPT;
 use crate::markup::style::STYLE;
 use std::alloc::{AllocError, Global};
@@ -16,11 +16,16 @@ use std::alloc::{AllocError, Global};
 pub enum Subject {
     /// A network, as it is heard.
     Network,
+    /// The same of which the last minutes are kept.
+    KeptNetwork,
     /// A recording, at a moment that its viewer chooses.
     Recording,
 }
 
 const NETWORK: &str = "<!doctype html>\n<html lang=\"en\" data-shows=\"network\">\n";
+
+const KEPT_NETWORK: &str =
+    "<!doctype html>\n<html lang=\"en\" data-shows=\"network\" data-keeps=\"true\">\n";
 
 const RECORDING: &str = "<!doctype html>\n<html lang=\"en\" data-shows=\"recording\">\n";
 
@@ -39,9 +44,10 @@ pub fn page(alloc: Global, subject: Subject) -> Result<String, AllocError> {
     let mut text = String::new(alloc);
     text.push_str(match subject {
         Subject::Network => NETWORK,
+        Subject::KeptNetwork => KEPT_NETWORK,
         Subject::Recording => RECORDING,
     })?;
-    for part in &[HEAD, STYLE, BODY, SCRIPT, INCIDENTS, PLAYER] {
+    for part in &[HEAD, STYLE, BODY, SCRIPT, INCIDENTS, REACH, PLAYER] {
         text.push_str(part)?;
     }
     Ok(text)

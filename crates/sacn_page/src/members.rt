@@ -1,7 +1,7 @@
 //! What stands in the document of a viewer (docs/FILES.md tells its members): a recording's facts, sources, levels, and who gives these.
 
 ghost use Rattle.std.specs.Prelude.{◌≡◌, ◌++◌, OnOk, codes, string_bytes, map};
-ghost use Rattle.sacn_page.specs.Documents.{digits_member, facts_object, fault_member, fault_name, fault_object, fault_value, first_number, foreign_member, long_digits_member, quoted, row_object, source_members, start_member, universe_member};
+ghost use Rattle.sacn_page.specs.Documents.{digits_member, facts_object, fault_member, fault_name, fault_object, fault_value, first_number, foreign_member, from_member, long_digits_member, quoted, row_object, source_members, start_member, universe_member};
 ghost use Rattle.sacn_tell.specs.Foreign.{foreign_text};
 ghost use Rattle.sacn_page.specs.Marks.{mark_of};
 
@@ -28,6 +28,7 @@ pub fn push_facts(text: &mut String, facts: &Facts) -> Result<(), AllocError>
     push_number(text, "length", facts.length)?;
     push_start(text, facts.start)?;
     push_fault_member(text, facts.fault)?;
+    push_from(text, facts.from)?;
     text.push('}')
 }
 
@@ -51,6 +52,17 @@ fn push_start(text: &mut String, start: Option<u64>) -> Result<(), AllocError>
     match start {
         Some(start) => push_number(text, "start", start),
         None => text.push_str(",\"start\":null"),
+    }
+}
+
+// The first moment that is kept, where not all is.
+fn push_from(text: &mut String, from: Option<u64>) -> Result<(), AllocError>
+    ensures { OnOk result
+        (string_bytes text.new ≡ string_bytes text.old ++ from_member from) }
+{
+    match from {
+        Some(from) => push_number(text, "from", from),
+        None => Ok(()),
     }
 }
 

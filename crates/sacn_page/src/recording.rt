@@ -10,6 +10,7 @@ use crate::scene::{Facts, Scene, SeekFault};
 use sacn_capture::{CaptureFault, FaultKind};
 use sacn_monitor::Endpoint;
 use sacn_packets::Reading;
+use sacn_tell::Timeline;
 use std::alloc::{AllocError, Global};
 use std::io::{self, BufRead, ErrorKind};
 
@@ -71,6 +72,8 @@ pub struct Recording<T: Tape + Drop> {
     /// The universe of a viewer that names none, where that isn't the first heard.
     preferred: Option<u16>,
     facts: Facts,
+    /// What the clock is at its start.
+    origin: Timeline,
     replay: Replay<T::Reader>,
     snapshots: Snapshots,
     /// The replay failed.
@@ -89,14 +92,27 @@ impl<T: Tape + Drop> Recording<T> {
         port: u16,
         preferred: Option<u16>,
     ) -> Result<Self, CaptureFault> {
+        Self::open_from(alloc, tape, name, port, preferred, Timeline::begin())
+    }
+
+    /// The same where the clock before the first frame is this, with its errors: moments are from the origin of that.
+    pub fn open_from(
+        alloc: Global,
+        tape: T,
+        name: &str,
+        port: u16,
+        preferred: Option<u16>,
+        origin: Timeline,
+    ) -> Result<Self, CaptureFault> {
         let mut tape = tape;
-        let replay = replay_from_start(alloc, &mut tape, port, preferred, None)?;
+        let replay = replay_from_start(alloc, &mut tape, port, origin, (preferred, None))?;
         let name = String::from_str(alloc, name).map_err(memory_fault)?;
         let facts = Facts {
             name,
             length: 0,
-            start: None,
+            start: origin.first,
             fault: None,
+            from: None,
         };
         Ok(Recording {
             alloc,
@@ -104,6 +120,7 @@ impl<T: Tape + Drop> Recording<T> {
             port,
             preferred,
             facts,
+            origin,
             replay,
             snapshots: Snapshots::new(alloc),
             is_broken: false,
@@ -122,6 +139,14 @@ impl<T: Tape + Drop> Recording<T> {
         self.facts.start = self.replay.start();
         self.facts.fault = self.replay.fault();
         Ok(true)
+    }
+
+    /// It is still written. From now on moments of it are sought from one to another, in milliseconds, behind which more came.
+    pub fn grow(&mut self, from: u64, to: u64) {
+        self.facts.from = Some(from);
+        self.facts.length = to;
+        // (what has come to its end doesn't go on behind that)
+        self.is_broken = self.is_broken | self.replay.is_over();
     }
 
     /// What is wrong with it, once it was read to there.
@@ -161,19 +186,16 @@ impl<T: Tape + Drop> Recording<T> {
                 self.replay = Replay::resume(self.alloc, reader, self.port, snapshot)?;
             }
             (None, Some(_)) => {}
-            (None, None) => self.begin_anew(named)?,
+            (None, None) => {
+                self.is_broken = true;
+                let (alloc, port, origin) = (self.alloc, self.port, self.origin);
+                let (tape, universes) = (&mut self.tape, (self.preferred, named));
+                self.replay = replay_from_start(alloc, tape, port, origin, universes)?;
+            }
         }
         if let Some(universe) = named {
             self.replay.open_universe(universe)?;
         }
-        Ok(())
-    }
-
-    // Begins at its start.
-    fn begin_anew(&mut self, named: Option<u16>) -> Result<(), SeekFault> {
-        self.is_broken = true;
-        let tape = &mut self.tape;
-        self.replay = replay_from_start(self.alloc, tape, self.port, self.preferred, named)?;
         Ok(())
     }
 
@@ -211,12 +233,12 @@ fn replay_from_start<T: Tape>(
     alloc: Global,
     tape: &mut T,
     port: u16,
-    preferred: Option<u16>,
-    universe: Option<u16>,
+    origin: Timeline,
+    (preferred, universe): (Option<u16>, Option<u16>),
 ) -> Result<Replay<T::Reader>, CaptureFault> {
     let reader = tape.rewind().map_err(tape_fault)?;
     let board = board_of(alloc, preferred, universe).map_err(memory_fault)?;
-    Replay::open(alloc, reader, port, board)
+    Replay::open_at(alloc, reader, port, board, origin)
 }
 
 // Nothing heard; these universes are merged.

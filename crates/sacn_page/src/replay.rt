@@ -71,11 +71,30 @@ impl<R: BufRead + Drop> Replay<R> {
             ≡ Some (followed_to moment port (recording file).frames (begun (known_to board))))) }
         ensures start { IfOk result (λ replay. replay.shown ≡ 0) }
     {
+        Self::open_at(alloc, reader, port, board, Timeline::begin())
+    }
+
+    /// The same where the clock before the first frame is this: moments are from its origin, where it has one.
+    ///
+    /// Errors: as of `open`.
+    pub fn open_at(
+        alloc: Global,
+        reader: R,
+        port: u16,
+        board: Board,
+        clock: Timeline,
+    ) -> Result<Self, CaptureFault>
+        ensures told { IfSome (R.Read.remaining reader) (λ file. IfOk result (λ replay.
+            (moment : ℕ) → will_show R.Read.remaining moment replay
+            ≡ Some (followed_to moment port (recording file).frames
+            (record { clock = clock; known = known_to board })))) }
+        ensures start { IfOk result (λ replay. replay.shown ≡ 0) }
+    {
         Ok(Replay {
             capture: Capture::open(alloc, reader)?,
             port,
             board,
-            clock: Timeline::begin(),
+            clock,
             next: Next::Unread,
             octets: Vec::new(alloc),
             shown: 0,
@@ -155,6 +174,11 @@ impl<R: BufRead + Drop> Replay<R> {
         ensures { result ≡ self.now.shown }
     {
         self.shown
+    }
+
+    /// Whether it has come to the end of the recording, or to what is wrong with it.
+    pub fn is_over(&self) -> bool {
+        matches!(self.next, Next::Nothing(_))
     }
 
     /// What is wrong with the recording, once it was followed to there.

@@ -7,6 +7,7 @@ ghost use Rattle.sacn_page.specs.Requests.{status_of, is_host, says_own, is_own,
 ghost use Rattle.sacn_page.specs.declared.request.RequestReading.TheVariants.{More};
 
 use crate::hosts::{Hosts, is_word};
+use crate::scene::{SeekFault, Window};
 use httparse::{EMPTY_HEADER, Error, Header, Request, Status};
 use sacn_packets::{MAX_UNIVERSE, MIN_UNIVERSE};
 
@@ -28,6 +29,8 @@ pub enum Target {
     Events(Option<u16>),
     /// What is known of a recording as a whole: `/recording`.
     Recording,
+    /// What was recorded beside a network from one moment to another, as a file: `/recording?from=..&to=..`, milliseconds.
+    Part(Window),
     /// What was found about the senders of a network: `/audit`.
     Findings,
 }
@@ -82,6 +85,15 @@ impl RequestRefusal {
             RequestRefusal::Busy => 503,
             RequestRefusal::Version => 505,
             RequestRefusal::Unread => 500,
+        }
+    }
+}
+
+impl From<SeekFault> for RequestRefusal {
+    fn from(fault: SeekFault) -> Self {
+        match fault {
+            SeekFault::OutOfMemory => RequestRefusal::Busy,
+            SeekFault::Device => RequestRefusal::Unread,
         }
     }
 }
@@ -211,8 +223,9 @@ fn target_asked(target: &str) -> Result<Target, RequestRefusal> {
             _ => Err(RequestRefusal::Moment),
         },
         "/recording" if query.is_empty() => Ok(Target::Recording),
+        "/recording" => Ok(Target::Part(window_in(query)?)),
         "/audit" if query.is_empty() => Ok(Target::Findings),
-        "/recording" | "/audit" => Err(RequestRefusal::Malformed),
+        "/audit" => Err(RequestRefusal::Malformed),
         _ => Err(RequestRefusal::Missing),
     }
 }
@@ -246,6 +259,20 @@ fn named_in(query: &str) -> Result<Named, RequestRefusal> {
         }
     }
     Ok(named)
+}
+
+// The window that a query names: its first moment and its last, in this order.
+fn window_in(query: &str) -> Result<Window, RequestRefusal> {
+    let Some((first, last)) = query.split_once('&') else {
+        return Err(RequestRefusal::Malformed);
+    };
+    match (first.split_once('='), last.split_once('=')) {
+        (Some(("from", from)), Some(("to", to))) => Ok(Window {
+            from: moment_of(from)?,
+            to: moment_of(to)?,
+        }),
+        _ => Err(RequestRefusal::Malformed),
+    }
 }
 
 fn universe_of(digits: &str) -> Result<u16, RequestRefusal> {

@@ -3,11 +3,12 @@
 ghost use Rattle.std.specs.Prelude.{◌≡◌, ◌++◌, OnOk, string_bytes};
 ghost use Rattle.sacn_page.specs.Feeds.{event_text};
 
+use crate::board::Board;
 use crate::document::{Extent, Given, push_document};
 use crate::markup::{Subject, page};
 use crate::members::push_facts;
 use crate::request::{RequestRefusal, Target};
-use crate::scene::Scene;
+use crate::scene::{Facts, Scene, Window};
 use crate::viewer::{Connection, Goal, Phase, Viewer};
 use std::alloc::{AllocError, Global};
 use std::fmt::Write;
@@ -23,6 +24,8 @@ pub enum MediaType {
     Json,
     Events,
     Text,
+    /// A file of pcapng.
+    Recording,
 }
 
 impl MediaType {
@@ -32,6 +35,7 @@ impl MediaType {
             MediaType::Json => "application/json",
             MediaType::Events => "text/event-stream",
             MediaType::Text => "text/plain; charset=utf-8",
+            MediaType::Recording => "application/vnd.tcpdump.pcap",
         }
     }
 }
@@ -88,6 +92,19 @@ pub fn whole(alloc: Global, media_type: MediaType, body: &str) -> Result<String,
 pub fn event_stream_head(alloc: Global) -> Result<String, AllocError> {
     let mut text = head_of(alloc, 200, "OK", MediaType::Events)?;
     text.push_str("\r\n")?;
+    Ok(text)
+}
+
+/// The head of an answer that is a part of a recording, whose octets follow up to the end of the connection.
+///
+/// Errors: a growth was refused.
+pub fn part_head(alloc: Global, window: Window) -> Result<String, AllocError> {
+    let mut text = head_of(alloc, 200, "OK", MediaType::Recording)?;
+    let Window { from, to } = window;
+    write!(
+        text,
+        "Content-Disposition: attachment; filename=\"sacn-{from}-{to}.pcapng\"\r\n\r\n"
+    )?;
     Ok(text)
 }
 
@@ -202,15 +219,65 @@ pub fn answer<C: Connection + Drop, S: Scene + Drop>(
     let now = question.now;
     match target {
         Target::Page => {
-            let body = page(alloc, Subject::Network)?;
+            let subject = if scene.is_kept() {
+                Subject::KeptNetwork
+            } else {
+                Subject::Network
+            };
+            let body = page(alloc, subject)?;
             give(alloc, viewer, MediaType::Page, body.as_str(), now)
         }
         Target::State(named, None) => show_state(alloc, scene, viewer, named, watched, now),
-        Target::State(_, Some(_)) => refuse(alloc, viewer, RequestRefusal::Moment, now),
+        Target::State(universe, moment) => match scene.recall() {
+            Ok(true) => {
+                viewer.wait(Goal {
+                    universe,
+                    moment,
+                    turn: question.turn,
+                });
+                Ok(())
+            }
+            Ok(false) => refuse(alloc, viewer, RequestRefusal::Moment, now),
+            Err(fault) => refuse(alloc, viewer, RequestRefusal::from(fault), now),
+        },
         Target::Events(named) => begin_events(alloc, scene, viewer, named, watched, now),
-        Target::Recording => refuse(alloc, viewer, RequestRefusal::Missing, now),
+        Target::Recording => match scene.recall() {
+            Ok(true) => show_facts(alloc, scene.sought_facts(), viewer, now),
+            Ok(false) => refuse(alloc, viewer, RequestRefusal::Missing, now),
+            Err(fault) => refuse(alloc, viewer, RequestRefusal::from(fault), now),
+        },
+        Target::Part(window) => begin_part(alloc, scene, viewer, window, now),
         Target::Findings => show_findings(alloc, scene, viewer, now),
     }
+}
+
+// The head of an answer whose octets follow: the packets of a window.
+fn begin_part<C: Connection + Drop, S: Scene + Drop>(
+    alloc: Global,
+    scene: &S,
+    viewer: &mut Viewer<C>,
+    window: Window,
+    now: u64,
+) -> Result<(), AllocError> {
+    let Some(copying) = scene.copying(window) else {
+        return refuse(alloc, viewer, RequestRefusal::Missing, now);
+    };
+    let text = part_head(alloc, window)?;
+    viewer.give(text.as_str(), Phase::Taking(copying), now)
+}
+
+// What is known of a recording as a whole.
+fn show_facts<C: Connection + Drop>(
+    alloc: Global,
+    facts: Option<&Facts>,
+    viewer: &mut Viewer<C>,
+    now: u64,
+) -> Result<(), AllocError> {
+    let mut body = String::new(alloc);
+    if let Some(facts) = facts {
+        push_facts(&mut body, facts)?;
+    }
+    give(alloc, viewer, MediaType::Json, body.as_str(), now)
 }
 
 // What was found about the senders, where somebody looks for that.
@@ -247,15 +314,10 @@ fn answer_of_recording<C: Connection + Drop, S: Scene + Drop>(
             });
             Ok(())
         }
-        Target::Events(_) => refuse(alloc, viewer, RequestRefusal::Missing, now),
-        Target::Findings => refuse(alloc, viewer, RequestRefusal::Missing, now),
-        Target::Recording => {
-            let mut body = String::new(alloc);
-            if let Some(facts) = scene.facts() {
-                push_facts(&mut body, facts)?;
-            }
-            give(alloc, viewer, MediaType::Json, body.as_str(), now)
+        Target::Events(_) | Target::Findings | Target::Part(_) => {
+            refuse(alloc, viewer, RequestRefusal::Missing, now)
         }
+        Target::Recording => show_facts(alloc, scene.facts(), viewer, now),
     }
 }
 
@@ -271,15 +333,15 @@ fn show_state<C: Connection + Drop, S: Scene + Drop>(
     if !prepare(scene, named, watched, now)? {
         return refuse(alloc, viewer, RequestRefusal::Busy, now);
     }
-    show_moment(alloc, scene, viewer, named, now)
+    show_moment(alloc, (scene.facts(), scene.board()), viewer, named, now)
 }
 
 /// Gives a viewer that names this universe, or none, the document of what is known.
 ///
 /// Errors: OutOfMemory.
-pub fn show_moment<C: Connection + Drop, S: Scene + Drop>(
+pub fn show_moment<C: Connection + Drop>(
     alloc: Global,
-    scene: &S,
+    (facts, board): (Option<&Facts>, &Board),
     viewer: &mut Viewer<C>,
     named: Option<u16>,
     now: u64,
@@ -288,8 +350,8 @@ pub fn show_moment<C: Connection + Drop, S: Scene + Drop>(
     let mut given = Given::nothing(alloc);
     push_document(
         &mut document,
-        scene.facts(),
-        scene.board(),
+        facts,
+        board,
         named,
         &mut given,
         Extent::Whole,

@@ -18,6 +18,33 @@ pub struct Facts {
     pub start: Option<u64>,
     /// What is wrong with it, and where. What is before that is shown.
     pub fault: Option<CaptureFault>,
+    /// Of a recording of which only the latest part is kept, the first moment of that, in milliseconds.
+    pub from: Option<u64>,
+}
+
+/// The moments from one to another, both among them, in milliseconds of the page.
+#[derive(Clone, Copy, PartialEq, Eq)]
+pub struct Window {
+    pub from: u64,
+    pub to: u64,
+}
+
+/// A place among the files of a recording, of which the first has number 0.
+#[derive(Clone, Copy, PartialEq, Eq)]
+pub struct FilePlace {
+    pub file: u64,
+    /// How many octets of the file are before it.
+    pub at: u64,
+}
+
+/// How far a viewer has taken a part of a recording.
+#[derive(Clone, Copy, PartialEq, Eq)]
+pub struct Copying {
+    pub window: Window,
+    /// Where it goes on; None where nothing was copied yet.
+    pub place: Option<FilePlace>,
+    /// Where it ends at the latest: what was kept when it was asked for.
+    pub end: FilePlace,
 }
 
 /// Why a moment of a recording can't be shown.
@@ -92,6 +119,44 @@ pub trait Scene {
         moment: Option<u64>,
         steps: usize,
     ) -> Result<bool, SeekFault>;
+
+    /// Whether it is a network of which the last minutes are kept.
+    fn is_kept(&self) -> bool {
+        false
+    }
+
+    /// Whether moments before now can be sought: of a recording those of it, of a network those that are kept beside it.
+    ///
+    /// Errors: OutOfMemory; Device where what is kept can't be read.
+    fn recall(&mut self) -> Result<bool, SeekFault> {
+        Ok(self.facts().is_some())
+    }
+
+    /// What is known as a whole of that in which moments are sought.
+    fn sought_facts(&self) -> Option<&Facts> {
+        self.facts()
+    }
+
+    /// What is known at the moment that was sought last.
+    fn sought_board(&self) -> &Board {
+        self.board()
+    }
+
+    /// The copying of a window of what is kept beside a network, where something is, up to what is kept now.
+    fn copying(&self, _window: Window) -> Option<Copying> {
+        None
+    }
+
+    /// Copies some octets on, which may be none, and returns where it goes on; None at its end.
+    ///
+    /// Errors: OutOfMemory; Device where what is kept can't be read.
+    fn copy(
+        &mut self,
+        _copying: Copying,
+        _octets: &mut Vec<u8>,
+    ) -> Result<Option<Copying>, SeekFault> {
+        Ok(None)
+    }
 }
 
 /// A network as it is heard.

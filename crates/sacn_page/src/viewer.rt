@@ -8,6 +8,7 @@ use crate::feed::Feed;
 use crate::hosts::Hosts;
 use crate::outbox::Outbox;
 use crate::request::{MAX_HEAD, RequestReading, RequestRefusal, read_request};
+use crate::scene::Copying;
 use std::alloc::{AllocError, Global};
 use std::io::{ErrorKind, Read, Write};
 
@@ -54,6 +55,8 @@ pub enum Phase {
     Watching(Option<u16>),
     /// It waits for a recording to be at a moment.
     Waiting(Goal),
+    /// It takes a part of a recording as a file.
+    Taking(Copying),
     /// It took all; what it still sends is passed over until it closes its end.
     Leaving,
     /// It is over.
@@ -107,7 +110,7 @@ impl<C: Connection> Viewer<C> {
         ensures { result ≡ is_guest self.now.phase }
     {
         match self.phase {
-            Phase::Answered | Phase::Watching(_) | Phase::Waiting(_) => true,
+            Phase::Answered | Phase::Watching(_) | Phase::Waiting(_) | Phase::Taking(_) => true,
             Phase::Asking | Phase::Leaving | Phase::Gone => false,
         }
     }
@@ -205,8 +208,15 @@ impl<C: Connection> Viewer<C> {
     /// Gives it octets, and what comes after them: its leave, or events. All that it was given before must have gone.
     ///
     /// Errors: OutOfMemory.
-    pub fn give(&mut self, octets: &str, after: Phase, now: u64) -> Result<(), AllocError> {
-        self.output.fill(octets.as_bytes())?;
+    pub fn give(&mut self, text: &str, after: Phase, now: u64) -> Result<(), AllocError> {
+        self.give_octets(text.as_bytes(), after, now)
+    }
+
+    /// The same of octets that are no text.
+    ///
+    /// Errors: OutOfMemory.
+    pub fn give_octets(&mut self, octets: &[u8], after: Phase, now: u64) -> Result<(), AllocError> {
+        self.output.fill(octets)?;
         self.phase = after;
         self.deadline = now.saturating_add(STALL_TIME);
         self.send(now);
@@ -280,6 +290,7 @@ impl<C: Connection> Viewer<C> {
                     self.phase = Phase::Gone;
                 }
             }
+            Phase::Taking(_) => self.deadline = u64::MAX,
             _ => {}
         }
     }

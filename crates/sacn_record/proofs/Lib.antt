@@ -13,3 +13,5 @@ pub mod Opening
 pub mod Growing
 pub mod Taping
 pub mod Rounds
+pub mod Cutting
+pub mod Spanning

@@ -17,7 +17,7 @@ use Rattle.sacn_record.proofs.Heads.{enhanced_head, head_length, no_section, tai
 use Rattle.sacn_record.proofs.Packed.{content_again}
 use Rattle.sacn_record.proofs.Whole.{packet_body_length}
 
-packet_length : (sent : Sent) → length sent.sender ≡ 4 → length sent.destination ≡ 4 → length (packet sent) ≡ 28 + length sent.payload
+pub packet_length : (sent : Sent) → length sent.sender ≡ 4 → length sent.destination ≡ 4 → length (packet sent) ≡ 28 + length sent.payload
 unfolding packet ipv4_header udp_header big16
 packet_length sent from to =
     omega (arith, length-append (sent.sender ++ sent.destination) (udp_header sent), length-append sent.sender sent.destination, length-append ((sent.sender ++ sent.destination) ++ udp_header sent) sent.payload)

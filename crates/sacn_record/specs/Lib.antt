@@ -5,3 +5,4 @@ pub mod Writing
 pub mod Hearing
 pub mod Sessions
 pub mod Laws
+pub mod Spans

@@ -1,6 +1,7 @@
 //! Laws of the definitions alone.
 
 ghost use Rattle.sacn_record.specs.Laws.{CallsGiveWhatWasRecorded, EachIsKeptOnce, FilesAreApart, FilesAreRecordings, FilesGiveWhatWasHeard, WhatWasRecordedIsRead};
+ghost use Rattle.sacn_record.specs.Spans.{ASpanIsARecording};
 
 use sacn_capture::laws::calls_give_the_recording;
 
@@ -43,3 +44,9 @@ pub fn files_give_what_was_heard()
     files_are_recordings();
     each_is_kept_once();
 }
+
+/// What `cut_span` gives of the files of a recording, behind one beginning, is the recording of exactly those of its datagrams whose
+/// moments lie in the span, in their order: whole blocks, each octet by octet as it was.
+pub fn a_span_is_a_recording()
+    ensures { ASpanIsARecording }
+{}

@@ -4,8 +4,10 @@
 //! `specs/Recordings.antt`; that it is read as what was heard is the law of `laws`.
 #![tactic(auto)]
 
+mod beside;
 mod blocks;
 mod choice;
+mod files;
 mod heard;
 pub mod laws;
 mod packets;
@@ -13,14 +15,18 @@ mod plan;
 mod put;
 mod recorder;
 mod session;
+mod span;
 mod tapes;
 mod totals;
 mod wire;
 
+pub use beside::Recorder;
+pub use files::{FileTapes, InTurn, Names, open_in_turn, read_at};
 pub use heard::{Heard, LONGEST_PAYLOAD, LONGEST_PROGRAM};
 pub use plan::RecordPlan;
 pub use recorder::{begin, record};
 pub use session::run_record;
+pub use span::{Period, cut_span};
 pub use tapes::Tapes;
 pub use totals::Totals;
 pub use wire::{Arrived, Caught, Wire};

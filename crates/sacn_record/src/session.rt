@@ -26,11 +26,11 @@ pub const MAX_ROUND: usize = 4096;
 
 /// What was heard, and is in no file yet.
 #[derive(Drop)]
-struct Waiting {
+pub struct Waiting {
     /// How many datagrams.
-    count: u64,
+    pub count: u64,
     /// Their blocks.
-    blocks: Vec<u8>,
+    pub blocks: Vec<u8>,
 }
 
 /// Records what comes until a moment of the wire's clock in milliseconds, or until the wire has ended. A file is begun at once, and another
@@ -141,8 +141,8 @@ fn hear<L: Wire>(
     }
 }
 
-// Adds the block of a datagram, where that is asked for.
-fn add(
+/// Adds the block of a datagram, where that is asked for.
+pub fn add(
     waiting: &mut Waiting,
     plan: &RecordPlan<'_>,
     arrived: &Arrived,
@@ -179,9 +179,9 @@ fn one_more(count: u64) -> u64
     count.saturating_add(1)
 }
 
-// Puts what waits into the latest file, which was begun at this reading, or where that is full into another one. Returns when the file was begun
-// that is then the latest.
-fn keep<T: Tapes>(
+/// Puts what waits into the latest file, which was begun at this reading, or where that is full into another one. Returns when the file
+/// was begun that is then the latest.
+pub fn keep<T: Tapes>(
     tapes: &mut T,
     plan: &RecordPlan<'_>,
     begun: u64,
@@ -261,8 +261,8 @@ fn put<T: Tapes>(tapes: &mut T, waiting: &mut Waiting, totals: &mut Totals) -> i
     Ok(())
 }
 
-// Begins a file as the recording of nothing.
-fn open<T: Tapes>(tapes: &mut T, plan: &RecordPlan<'_>, totals: &mut Totals) -> io::Result<()>
+/// Begins a file as the recording of nothing.
+pub fn open<T: Tapes>(tapes: &mut T, plan: &RecordPlan<'_>, totals: &mut Totals) -> io::Result<()>
     requires program { length plan.now.program.now ≤ 64 }
     ensures opened { OnOk result (Extends (T.told tapes.old) (T.told tapes.new)
         (opening plan.now)) }

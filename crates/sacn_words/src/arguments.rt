@@ -162,6 +162,21 @@ pub const WATCH_CLOCK: Argument<'static> = Argument {
     ..CLOCK
 };
 
+pub const WATCH_RECORD: Argument<'static> = Argument {
+    name: "record",
+    help: "Keeps what it hears in this folder, so that the page of --page goes back to the last minutes: ring.pcapng and ring-older.pcapng, which explain reads; only with --ring",
+    value: Some("FOLDER"),
+    ..OPTION
+};
+
+pub const WATCH_RING: Argument<'static> = Argument {
+    name: "ring",
+    help: "How many of the last minutes --record keeps, at least, 1 to 10080 (a week)",
+    kind: ArgumentKind::Number(1, 10_080),
+    value: Some("MINUTES"),
+    ..OPTION
+};
+
 pub const PAGE: Argument<'static> = Argument {
     name: "page",
     help: "Serves a page for browsers there, of this machine where only a port is named, and prints nothing",

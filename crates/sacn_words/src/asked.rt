@@ -49,7 +49,7 @@ pub enum Asked<'a> {
         port: u16,
         is_json: bool,
     },
-    Watch(WatchAsked),
+    Watch(WatchAsked<'a>),
     Record(RecordAsked<'a>),
     Replay(ReplayAsked<'a>),
     Check(CheckAsked<'a>),
@@ -144,9 +144,16 @@ impl<'a> ExplainAsked<'a> {
     }
 }
 
+/// A ring of files in which the last minutes are kept.
+#[derive(Clone, Copy)]
+pub struct RingAsked<'a> {
+    pub folder: &'a str,
+    pub minutes: u64,
+}
+
 /// What a watch is asked.
 #[derive(Drop)]
-pub struct WatchAsked {
+pub struct WatchAsked<'a> {
     pub listen: Ipv4Addr,
     pub port: u16,
     pub universes: Vec<u16>,
@@ -165,9 +172,11 @@ pub struct WatchAsked {
     pub is_audit: bool,
     /// Where a page is served in place of what is printed.
     pub page: Option<SocketAddrV4>,
+    /// Where what is heard is kept for the page.
+    pub ring: Option<RingAsked<'a>>,
 }
 
-impl WatchAsked {
+impl<'a> WatchAsked<'a> {
     /// Whether lines or objects are asked for, in a terminal too.
     pub fn wants_lines(&self) -> bool {
         self.is_plain | self.has_each | self.is_json | self.is_audit

@@ -1,7 +1,7 @@
 //! Reads what a command's words ask for.
 use crate::asked::{
     Asked, CheckAsked, DeskAsked, DeskKeyAsked, DeskPageAsked, ExplainAsked, GatewayAsked,
-    MAX_SETUPS, WatchAsked,
+    MAX_SETUPS, RingAsked, WatchAsked,
 };
 use crate::manual::{Syntax, shell_of};
 use crate::reading::{Fault, Words, refusal};
@@ -166,6 +166,14 @@ fn watch<'a>(words: &mut Words<'_, 'a>) -> Asked<'a> {
     words.beside("page", "audit");
     words.beside("plain", "audit");
     words.beside("each", "audit");
+    words.without("record", "page");
+    words.without("record", "ring");
+    words.without("ring", "record");
+    let minutes = words.given_number("ring");
+    let ring = match (words.word("record"), minutes) {
+        (Some(folder), Some(minutes)) => Some(RingAsked { folder, minutes }),
+        _ => None,
+    };
     Asked::Watch(WatchAsked {
         listen,
         port,
@@ -178,6 +186,7 @@ fn watch<'a>(words: &mut Words<'_, 'a>) -> Asked<'a> {
         has_clock: words.is_given("clock"),
         is_beside: words.is_given("beside"),
         is_audit: words.is_given("audit"),
+        ring,
     })
 }
 

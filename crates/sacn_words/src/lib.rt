@@ -16,7 +16,7 @@ mod tree;
 
 pub use asked::{
     Asked, CheckAsked, DeskAsked, DeskKeyAsked, DeskPageAsked, ExplainAsked, GatewayAsked,
-    MAX_SETUPS, WatchAsked, moment_of,
+    MAX_SETUPS, RingAsked, WatchAsked, moment_of,
 };
 pub use commands::parse;
 pub use manual::Syntax;

@@ -2,7 +2,8 @@
 use crate::arguments::{
     BESIDE, BIND, CLOCK, DESK_PAGE, DESK_SCRIPT_HELP, FIRST, FLAG, FRAMES, GATEWAY_AUDIT, HELP,
     HELP_LETTER, JOIN, JSON, KEY, KEY_FILE, LISTEN, MULTICAST, OPERAND, OPTION, PAGE, SCRIPT_HELP,
-    SECONDS, SETUP, SHOW, TO, TTL, TURNS, WATCH_AUDIT, WATCH_CLOCK, WATCH_EACH,
+    SECONDS, SETUP, SHOW, TO, TTL, TURNS, WATCH_AUDIT, WATCH_CLOCK, WATCH_EACH, WATCH_RECORD,
+    WATCH_RING,
 };
 use crate::manual::{Argument, ArgumentKind, SHELL_WORDS, SHELLS, Subcommand};
 use crate::recordings::{AUDIT, EXPLAIN, RECORD, REPLAY};
@@ -207,6 +208,8 @@ const WATCH: Subcommand<'static> = Subcommand {
         WATCH_CLOCK,
         WATCH_AUDIT,
         PAGE,
+        WATCH_RECORD,
+        WATCH_RING,
         BESIDE,
         HELP_LETTER,
         HELP,

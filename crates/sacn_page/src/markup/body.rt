@@ -12,13 +12,15 @@ pub const BODY: &str = r##"</head>
 <noscript>This page needs scripts. The same is told as text by: sacn watch --each, and sacn explain --each</noscript>
 <main>
   <section id="time-part" aria-labelledby="time-head" hidden>
-    <h2 id="time-head">Moment <output id="moment" for="time">0:00.000</output> <span id="length" class="note"></span> <span id="clock" class="note"></span></h2>
+    <h2 id="time-head">Moment <output id="moment" for="time" aria-live="off">0:00.000</output> <span id="length" class="note"></span> <span id="clock" class="note"></span></h2>
     <div id="time-row">
       <button id="play" type="button" aria-pressed="false">play</button>
+      <button id="live" type="button" hidden>now</button>
       <input id="time" type="range" min="0" max="0" step="1" value="0" list="marks" aria-label="Moment of the recording" aria-describedby="time-keys">
     </div>
     <datalist id="marks"></datalist>
     <p id="fault" class="over" hidden></p>
+    <p id="part" hidden><button id="cut" type="button" aria-pressed="false">mark</button> <a id="save" download>save</a> <span class="note">from the mark to this moment, else the minute before it, as a recording</span></p>
     <p id="time-keys" class="note">On the slider arrow keys move by a second, Page Up and Page Down by ten, Home and End to the ends; an alarm's button moves to its moment.</p>
   </section>
   <section id="universes-part" aria-labelledby="universes-head">

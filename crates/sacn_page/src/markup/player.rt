@@ -39,11 +39,70 @@ function momentsOf(line, spell) {
 }
 "##;
 
+/// It follows that of the alarms, of a network of which the last minutes are kept.
+pub const REACH: &str = r##"
+// The moments before now that are kept, asked for each second. A moment is looked at as one of a recording is; what is heard meanwhile waits.
+const isKept = document.documentElement.dataset.keeps === 'true';
+let isBack = false, isReaching = false, cutFrom = null;
+async function followReach() {
+  if (isReaching) return;
+  isReaching = true;
+  const reach = await told('/recording').catch(() => null);
+  isReaching = false;
+  if (!reach) return;
+  Object.assign(film, { start: reach.start, first: reach.from, length: reach.length, isKnown: true });
+  if (cutFrom !== null) cutFrom = bounded(cutFrom, film.first, film.length);
+  if (!isBack) film.at = film.length;
+  // (a moment that is no longer kept gives way to the first one that is; one that couldn't be read is asked for again)
+  else if (film.at !== bounded(film.at, film.first, film.length)) moveTo(film.at);
+  else if (film.isLost) ask();
+  part('time-part').hidden = part('part').hidden = false;
+  part('time').min = String(film.first);
+  part('time').max = String(film.length);
+  put(part('length'), `since the watch began; the last ${spelled(film.length - film.first)} are kept`);
+  part('marks').replaceChildren();
+  for (const line of gathered(known.alarms)) add(part('marks'), 'option').value = String(line.ms);
+  showTime();
+}
+function lookBack(is) {
+  if (isBack === is) return;
+  isBack = is;
+  film.isLost = false;
+  part('live').hidden = !is;
+  document.body.classList.toggle('back', is);
+  put(part('name'), is ? 'a moment before now' : '');
+  if (is) {
+    film.universe = known.universe;
+    return;
+  }
+  play(false);
+  film.at = film.length;
+  showTime();
+  open(film.universe);
+}
+// What is saved: from the mark to the moment, or the other way round; without a mark the minute before it.
+function showPart() {
+  const ends = cutFrom === null ? [film.at - MINUTE, film.at] : [cutFrom, film.at];
+  const from = Math.max(film.first, Math.min(...ends)), to = Math.max(...ends);
+  part('save').href = `/recording?from=${from}&to=${to}`;
+  put(part('save'), `save ${timeOfDay(from).slice(11, 19)} to ${timeOfDay(to).slice(11, 19)}`);
+}
+part('live').addEventListener('click', () => {
+  lookBack(false);
+  part('time').focus();
+});
+part('cut').addEventListener('click', () => {
+  cutFrom = cutFrom === null ? film.at : null;
+  part('cut').setAttribute('aria-pressed', String(cutFrom !== null));
+  showPart();
+});
+"##;
+
 /// It follows that of the alarms.
 pub const PLAYER: &str = r##"
 // A recording: the document of a moment is asked for, one at a time; a later wish takes the place of one that waits.
 const SECOND = 1000, LEAP = 10000;
-const film = { name: '', length: 0, start: null, at: 0, universe: null, alarms: [], leftOut: 0, isKnown: false, isWanted: false, isAsking: false, isLost: false, from: null };
+const film = { name: '', first: 0, length: 0, start: null, at: 0, universe: null, alarms: [], leftOut: 0, isKnown: false, isWanted: false, isAsking: false, isLost: false, from: null };
 
 function spelled(ms) {
   const seconds = Math.floor(ms / SECOND);
@@ -76,11 +135,12 @@ async function ask() {
     try {
       const state = await told('/state?' + words);
       film.isLost = false;
+      if (!isRecording && !isBack) break;
       known.sources.clear();
-      takeDocument(state);
+      takeDocument(isRecording ? state : { ...state, alarms: undefined });
       showAll();
     } catch { film.isLost = true; }
-    showReach();
+    if (isRecording) showReach();
   }
   film.isAsking = false;
 }
@@ -122,9 +182,10 @@ function showMarks() {
 let latestAlarm;
 function showTime() {
   part('time').value = String(film.at);
-  part('time').setAttribute('aria-valuetext', spelled(film.at));
+  part('time').setAttribute('aria-valuetext', isBack ? timeOfDay(film.at) : isKept ? 'now' : spelled(film.at));
   put(part('moment'), spelled(film.at));
   put(part('clock'), timeOfDay(film.at));
+  if (isKept) return showPart();
   const items = [...part('alarms').children];
   for (const item of items) item.classList.toggle('later', Number(item.dataset.at) > film.at);
   const latest = items.findLast((item) => !item.classList.contains('later')) || items[0];
@@ -132,19 +193,21 @@ function showTime() {
 }
 function showLatest() { if (latestAlarm) showIn(part('alarms'), latestAlarm); }
 function showAt(ms) {
-  film.at = bounded(Math.round(ms), 0, film.length);
+  film.at = bounded(Math.round(ms), film.first, film.length);
+  if (isKept) lookBack(true);
   showTime();
   ask();
 }
 let remembering = 0;
 function moveTo(ms) {
+  if (!film.isKnown) return;
   showAt(ms);
   if (film.from) film.from = { at: film.at, since: performance.now() };
   clearTimeout(remembering);
   remembering = setTimeout(() => remember(film.universe), 500);
 }
 function play(isPlaying) {
-  if (isPlaying && film.at >= film.length) showAt(0);
+  if (isPlaying && film.at >= film.length) showAt(film.first);
   film.from = isPlaying ? { at: film.at, since: performance.now() } : null;
   put(part('play'), isPlaying ? 'pause' : 'play');
   part('play').setAttribute('aria-pressed', String(isPlaying));
@@ -153,6 +216,7 @@ function playOn() {
   if (!film.from) return;
   showAt(film.from.at + performance.now() - film.from.since);
   if (film.at >= film.length) play(false);
+  if (isKept && !film.from) lookBack(false);
 }
 part('play').addEventListener('click', () => play(!film.from));
 part('time').addEventListener('input', () => moveTo(Number(part('time').value)));
@@ -200,6 +264,11 @@ if (isRecording) {
     if (performance.now() - drawn >= (isCalm.matches ? 1000 : 100)) { drawn = performance.now(); showGraph(); }
   }, 100);
   addEventListener('resize', showGraph);
+  if (isKept) {
+    followReach();
+    setInterval(followReach, 1000);
+    setInterval(playOn, 100);
+  }
 }
 </script>
 </body>

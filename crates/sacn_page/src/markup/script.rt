@@ -60,11 +60,14 @@ function takeDocument(told) {
   if (told.levels !== undefined) {
     hex(told.levels, 2, known.levels);
     // (of a universe that nobody sent on yet there is no level to draw)
-    if (sourcesOf(known.universe).length) past.push({ ms: told.ms, levels: known.levels.slice() });
+    if (!isRecording && !isBack && sourcesOf(known.universe).length) past.push({ ms: told.ms, levels: known.levels.slice() });
     while (past.length > 1 && past[1].ms < told.ms - MINUTE) past.shift();
   }
   noteChanges();
   if (told.winners !== undefined) hex(told.winners, 4, known.winners);
+  takeAlarms(told);
+}
+function takeAlarms(told) {
   for (const alarm of told.alarms || []) keepAlarm(alarm);
   if (told.alarms) known.leftOut = told.alarms_left_out || 0;
 }
@@ -81,21 +84,33 @@ function sameAgain(before, alarm) {
   return at < 0 ? alarm : before.splice(at, 1)[0];
 }
 
-function open(universe) {
-  if (isRecording) return look(universe);
+function open(universe) { if (isRecording || isBack) look(universe); else listen(universe); }
+function listen(universe) {
   if (events) events.close();
   past = [];
   events = new EventSource('/events' + (universe === null ? '' : `?universe=${universe}`));
   events.addEventListener('state', (event) => {
-    const before = known.alarms;
-    known.sources.clear();
+    const before = known.alarms, told = JSON.parse(event.data);
     known.alarms = [];
-    takeDocument(JSON.parse(event.data));
+    if (isBack) {
+      heardAt = performance.now();
+      takeAlarms(told);
+    } else {
+      known.sources.clear();
+      takeDocument(told);
+    }
     known.alarms = known.alarms.map((alarm) => sameAgain(before, alarm));
+    if (isBack) return showAlarms();
     showAll();
   });
   events.addEventListener('change', (event) => {
     const told = JSON.parse(event.data);
+    if (isBack) {
+      heardAt = performance.now();
+      takeAlarms(told);
+      if (told.alarms) showAlarms();
+      return;
+    }
     takeDocument(told);
     if (told.sources || told.heard || told.alarms) showUniverses();
     if (told.sources || told.heard) showSources();
@@ -230,7 +245,7 @@ part('units').addEventListener('change', (event) => {
 });
 
 // Which slots had another level since the button was pressed, or since another universe was chosen: also those that have the old one again.
-function markFrom() { return { universe: known.universe, since: isRecording ? spelled(film.at) : clock.format(new Date()), levels: known.levels.slice(), slots: new Set() }; }
+function markFrom() { return { universe: known.universe, since: isRecording ? spelled(film.at) : clock.format(isBack ? film.start + film.at : Date.now()), levels: known.levels.slice(), slots: new Set() }; }
 function noteChanges() {
   if (!marked) return;
   if (marked.universe !== known.universe) marked = markFrom();
@@ -249,7 +264,7 @@ part('since').addEventListener('click', () => {
 
 // The chosen slot's level over the last minute, the newest at the right: a level stands until the next one.
 function showGraph() {
-  if (isRecording) return;
+  if (isRecording || isBack) return;
   const canvas = part('graph'), scale = window.devicePixelRatio || 1;
   const width = canvas.clientWidth, height = canvas.clientHeight;
   if (canvas.width !== Math.round(width * scale) || canvas.height !== Math.round(height * scale)) {
@@ -336,9 +351,10 @@ function showAlarms() {
   for (const line of gathered(known.alarms)) {
     // (a line stays where it stands as long as one of its alarms is kept)
     const item = line.alarms.map((alarm) => standing.get(alarm)).find((it) => it && !shown.has(it)) || itemOf(list, line);
+    const told = isKept ? item.firstChild : item;
     item.alarms = line.alarms;
-    item.firstChild.title = `${momentsOf(line, sinceStart)} after the watch began`;
-    put(item.lastChild, lineText(line));
+    told.firstChild.title = `${momentsOf(line, sinceStart)} after the watch began`;
+    put(told.lastChild, lineText(line));
     shown.add(item);
   }
   for (const item of [...list.children]) if (!shown.has(item)) item.remove();
@@ -347,9 +363,13 @@ function showAlarms() {
 }
 // A new line of alarms, above the others.
 function itemOf(list, line) {
-  const item = document.createElement('li');
-  add(item, 'time', clock.format(new Date(Date.now() - (now() - line.ms))));
-  item.append('');
+  const item = document.createElement('li'), told = isKept ? add(item, 'button') : item;
+  add(told, 'time', clock.format(new Date(isBack ? film.start + line.ms : Date.now() - (now() - line.ms))));
+  told.append('');
+  if (isKept) {
+    told.type = 'button';
+    told.addEventListener('click', () => moveTo(item.alarms[0].ms));
+  }
   list.prepend(item);
   return item;
 }
@@ -369,11 +389,12 @@ part('audit').addEventListener('toggle', showFindings);
 // Levels that may have changed since aren't shown as if they stood: the whole page goes grey, and a banner says why.
 function showConnection() {
   const silent = performance.now() - heardAt > SILENCE;
-  const lost = events.readyState !== EventSource.OPEN || silent;
-  const banner = part('banner'), text = heardAt === -Infinity ? 'Waiting for the program.' : 'The connection to the program is lost: what is shown is old. Trying again.';
+  const isGone = events.readyState !== EventSource.OPEN || silent, lost = isGone || isBack && film.isLost;
+  const old = isGone ? 'The connection to the program is lost: what is shown is old. Trying again.' : 'This moment can\'t be read: another one is shown. Trying again.';
+  const banner = part('banner'), text = heardAt === -Infinity ? 'Waiting for the program.' : old;
   document.body.classList.toggle('stale', lost);
   if (lost) put(banner, text);
   banner.hidden = !lost;
-  if (events.readyState === EventSource.CLOSED) open(known.universe);
+  if (events.readyState === EventSource.CLOSED) listen(known.universe);
 }
 "##;

@@ -22,6 +22,7 @@ main { display: grid; gap: .75rem; padding: .75rem; grid-template-columns: minma
 section { background: var(--panel); border: 1px solid var(--line); border-radius: 8px; padding: .75rem; min-width: 0; }
 @media (min-width: 1100px) {
   main { grid-template: "universes universes" auto "levels alarms" auto "levels slot" 1fr "sources sources" auto "audit audit" auto / minmax(0, 2fr) minmax(22rem, 1fr); align-items: start; }
+  [data-keeps] main { grid-template: "time time" auto "universes universes" auto "levels alarms" auto "levels slot" 1fr "sources sources" auto "audit audit" auto / minmax(0, 2fr) minmax(22rem, 1fr); }
   [data-shows=recording] main { grid-template: "time time" auto "universes universes" auto "levels alarms" auto "levels slot" 1fr "sources sources" auto / minmax(0, 2fr) minmax(22rem, 1fr); }
   #time-part { grid-area: time; } #universes-part { grid-area: universes; } #alarms-part { grid-area: alarms; }
   #levels-part { grid-area: levels; } #slot-part { grid-area: slot; } #sources-part { grid-area: sources; } #audit-part { grid-area: audit; }
@@ -29,7 +30,7 @@ section { background: var(--panel); border: 1px solid var(--line); border-radius
 p { margin: .75rem 0 0; } #time-part { position: sticky; top: 0; z-index: 2; }
 #time-row { display: flex; gap: .75rem; align-items: center; } #time { flex: 1; min-width: 0; accent-color: var(--focus); height: 1.8rem; margin: 0; }
 #moment, #length { font-variant-numeric: tabular-nums; } #play { min-width: 4.5rem; text-align: center; } #name { overflow-wrap: anywhere; }
-[data-shows=recording] :is(#graph, #audit-part) { display: none; } summary { cursor: pointer; font-weight: 700; } #alarms button { width: 100%; overflow-wrap: anywhere; } #alarms .later button { color: var(--dim); }
+[data-shows=recording] :is(#graph, #audit-part), .back #graph { display: none; } .back #name { color: var(--warn); } summary { cursor: pointer; font-weight: 700; } #alarms button { width: 100%; overflow-wrap: anywhere; } #alarms .later button { color: var(--dim); }
 .stale main { opacity: .45; filter: grayscale(1); }
 button { font: inherit; color: inherit; background: var(--ground); border: 1px solid var(--line); border-radius: 6px; padding: .3rem .6rem; cursor: pointer; text-align: left; }
 button[aria-current=true], button[aria-pressed=true] { border-color: var(--focus); box-shadow: inset 0 0 0 1px var(--focus); }
@@ -68,7 +69,7 @@ tr.gone { color: var(--dim); } tr.gone td.state { font-weight: 700; } tr.gone td
 #alarms time { color: var(--dim); margin-right: .6rem; font-variant-numeric: tabular-nums; }
 @media (max-width: 700px) {
   header { padding: .4rem .75rem; row-gap: 0; } main { gap: .5rem; padding: .5rem; } section { padding: .5rem; } h2 { margin-bottom: .3rem; }
-  #universes { max-height: 5.75rem; } #universes li { max-width: calc(50% - .2rem); } #time-keys { display: none; }
+  #universes { max-height: 5.75rem; } #universes li { max-width: calc(50% - .2rem); } #time-keys, #part .note, [data-keeps] #length { display: none; }
 }
 @media (min-width: 1100px) { #alarms { max-height: clamp(6.25rem, 50vh - 12rem, 20rem); } }
 </style>

@@ -123,6 +123,11 @@ fn say_reading(step: &mut Step<'_>, reading: RequestReading) {
             say_given(step, universe.map(u64::from));
         }
         RequestReading::Asked(Target::Recording) => step.say(&"recording"),
+        RequestReading::Asked(Target::Part(window)) => {
+            step.say(&"part");
+            step.say(&window.from);
+            step.say(&window.to);
+        }
         RequestReading::Asked(Target::Findings) => step.say(&"findings"),
         RequestReading::Refused(refusal) => step.say(&format_args!("refused {}", refusal.status())),
     }
@@ -141,6 +146,7 @@ fn say_phase(step: &mut Step<'_>, phase: Phase) {
         Phase::Answered => "answered",
         Phase::Watching(_) => "watching",
         Phase::Waiting(_) => "waiting",
+        Phase::Taking(_) => "taking",
         Phase::Leaving => "leaving",
         Phase::Gone => "gone",
     };

@@ -1,8 +1,8 @@
 //! The files of a recording.
-use sacn_record::Tapes;
+use crate::tapes::Tapes;
 use std::alloc::{AllocError, Global};
 use std::fs::{self, File, OpenFile};
-use std::io::{self, ErrorKind, Write};
+use std::io::{self, ErrorKind, Read, Seek, SeekFrom, Write};
 use std::rt::Files;
 
 /// The names of the files of a recording.
@@ -88,6 +88,10 @@ pub struct FileTapes<'a, R: Files> {
     file: Option<R::File>,
     /// How many octets were put whole into the latest file.
     whole: u64,
+    /// How many were put into the one before it.
+    whole_before: u64,
+    /// How many files were begun.
+    count: u64,
 }
 
 impl<'a, R: Files> FileTapes<'a, R> {
@@ -98,7 +102,24 @@ impl<'a, R: Files> FileTapes<'a, R> {
             names,
             file: None,
             whole: 0,
+            whole_before: 0,
+            count: 0,
         }
+    }
+
+    /// How many files were begun: the latest has this number, the one before it the number before.
+    pub fn count(&self) -> u64 {
+        self.count
+    }
+
+    /// How many octets were put whole into the latest file.
+    pub fn whole(&self) -> u64 {
+        self.whole
+    }
+
+    /// How many octets the file before it has.
+    pub fn whole_before(&self) -> u64 {
+        self.whole_before
     }
 
     // Takes back what was put in part, so that the file ends with a whole block. One of which nothing is whole is removed.
@@ -131,7 +152,9 @@ impl<'a, R: Files> Tapes for FileTapes<'a, R> {
             }
         }
         self.file = Some(File::create_new(self.rt, self.names.newest())?);
+        self.whole_before = self.whole;
         self.whole = 0;
+        self.count = self.count.saturating_add(1);
         Ok(())
     }
 
@@ -146,4 +169,76 @@ impl<'a, R: Files> Tapes for FileTapes<'a, R> {
         }
         put
     }
+}
+
+/// The octets of one read.
+const CHUNK: usize = 1 << 14;
+
+/// At most so many octets of a file, from a place on.
+///
+/// Errors: those of the machine's files; OutOfMemory.
+pub fn read_at<R: Files>(
+    rt: &R,
+    alloc: Global,
+    path: &str,
+    at: u64,
+    most: u64,
+) -> io::Result<Vec<u8>> {
+    let mut file = fs::open(rt, path)?;
+    file.seek(SeekFrom::Start(at))?;
+    let mut octets = Vec::new(alloc);
+    let mut chunk = [0; CHUNK];
+    for _ in 0..most {
+        let left = most.saturating_sub(octets.len() as u64);
+        let room = left.min(CHUNK as u64) as usize;
+        let count = file.read(&mut chunk[..room])?;
+        if count == 0 {
+            break;
+        }
+        octets.extend_from_slice(&chunk[..count])?;
+    }
+    Ok(octets)
+}
+
+/// One file, where there is one, and behind it another.
+#[derive(Drop)]
+pub struct InTurn<F> {
+    first: Option<F>,
+    last: F,
+}
+
+impl<F: Read + Drop> Read for InTurn<F> {
+    fn read(&mut self, octets: &mut [u8]) -> io::Result<usize> {
+        if let Some(first) = &mut self.first {
+            let count = first.read(octets)?;
+            if (count > 0) | octets.is_empty() {
+                return Ok(count);
+            }
+            self.first = None;
+        }
+        self.last.read(octets)
+    }
+}
+
+/// The files of a ring one after the other, from a place on. The one before the latest has so many octets, where there is one.
+///
+/// Errors: those of the machine's files.
+pub fn open_in_turn<R: Files>(
+    rt: &R,
+    names: &Names<'_>,
+    whole_before: Option<u64>,
+    offset: u64,
+) -> io::Result<InTurn<R::File>> {
+    let before = whole_before.unwrap_or(0);
+    let first = match names.older() {
+        Some(older) if offset < before => {
+            let mut file = fs::open(rt, older)?;
+            file.seek(SeekFrom::Start(offset))?;
+            Some(file)
+        }
+        _ => None,
+    };
+    let mut last = fs::open(rt, names.newest())?;
+    last.seek(SeekFrom::Start(offset.saturating_sub(before)))?;
+    Ok(InTurn { first, last })
 }
