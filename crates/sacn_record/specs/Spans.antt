@@ -6,10 +6,15 @@ use Rattle.sacn_capture.specs.Octets.{number32}
 use Rattle.sacn_record.specs.declared.span.Period.{Period}
 use Rattle.sacn_record.specs.Recordings.{Taken, beginning, datagram_block, recording_of}
 use Rattle.sacn_record.specs.Laws.{AllFit}
+use Rattle.sacn_record.specs.Sessions.{counted}
 
 -- a moment lies in a span, whose ends do so too
 abbrev pub is_in : Period → ℕ → Bool
 is_in span moment = nat_le span.first moment && nat_le moment span.last
+
+-- the moment that a reading of a clock stands for which read 0 at this one: milliseconds both, and microseconds since 1970
+abbrev pub stamp : ℕ → ℕ → ℕ
+stamp origin reading = counted (counted (origin + reading) * 1000)
 
 -- ---- among the octets of a file
 

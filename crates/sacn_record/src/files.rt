@@ -2,7 +2,7 @@
 use crate::tapes::Tapes;
 use std::alloc::{AllocError, Global};
 use std::fs::{self, File, OpenFile};
-use std::io::{self, ErrorKind, Read, Seek, SeekFrom, Write};
+use std::io::{self, ErrorKind, Write};
 use std::rt::Files;
 
 /// The names of the files of a recording.
@@ -80,16 +80,23 @@ fn is_there<R: Files>(rt: &R, path: &str) -> bool {
     rt.symlink_metadata(path).is_ok()
 }
 
+/// How many octets stand whole in the two latest files of a recording.
+#[derive(Clone, Copy)]
+pub struct Filled {
+    /// In the one before the latest; 0 where there is none.
+    pub before: u64,
+    /// In the latest; 0 where there is none, or it couldn't be begun.
+    pub latest: u64,
+}
+
 /// Files of the machine: each begins under the one name, and the one before it then has the other.
 #[derive(Drop)]
 pub struct FileTapes<'a, R: Files> {
     rt: &'a R,
     names: &'a Names<'a>,
+    /// The latest one. None where none was begun, or the latest couldn't be.
     file: Option<R::File>,
-    /// How many octets were put whole into the latest file.
-    whole: u64,
-    /// How many were put into the one before it.
-    whole_before: u64,
+    filled: Filled,
     /// How many files were begun.
     count: u64,
 }
@@ -101,8 +108,10 @@ impl<'a, R: Files> FileTapes<'a, R> {
             rt,
             names,
             file: None,
-            whole: 0,
-            whole_before: 0,
+            filled: Filled {
+                before: 0,
+                latest: 0,
+            },
             count: 0,
         }
     }
@@ -112,25 +121,20 @@ impl<'a, R: Files> FileTapes<'a, R> {
         self.count
     }
 
-    /// How many octets were put whole into the latest file.
-    pub fn whole(&self) -> u64 {
-        self.whole
-    }
-
-    /// How many octets the file before it has.
-    pub fn whole_before(&self) -> u64 {
-        self.whole_before
+    /// How many octets stand whole in the two latest.
+    pub fn filled(&self) -> Filled {
+        self.filled
     }
 
     // Takes back what was put in part, so that the file ends with a whole block. One of which nothing is whole is removed.
     fn take_back(&mut self) {
-        if self.whole == 0 {
+        if self.filled.latest == 0 {
             self.file = None;
             let _ = fs::remove_file(self.rt, self.names.newest());
             return;
         }
         if let Some(file) = &self.file {
-            let _ = file.set_len(self.whole);
+            let _ = file.set_len(self.filled.latest);
         }
     }
 }
@@ -144,17 +148,21 @@ fn passed_over(renamed: io::Result<()>) -> io::Result<()> {
 }
 
 impl<'a, R: Files> Tapes for FileTapes<'a, R> {
-    /// Never writes over a file but the older one of its own. Where somebody has moved the one before away, it stays there.
+    /// Never writes over a file but the older one of its own. Where somebody has moved the one before away, it stays there. Where the
+    /// next can't be begun, the one before it stays whole: as the latest, or, once it has that name, as the older one.
     fn begin(&mut self) -> io::Result<()> {
         if self.file.is_some() {
             if let Some(older) = self.names.older() {
                 passed_over(fs::rename(self.rt, self.names.newest(), older))?;
             }
         }
-        self.file = Some(File::create_new(self.rt, self.names.newest())?);
-        self.whole_before = self.whole;
-        self.whole = 0;
+        self.filled = Filled {
+            before: self.filled.latest,
+            latest: 0,
+        };
         self.count = self.count.saturating_add(1);
+        self.file = None;
+        self.file = Some(File::create_new(self.rt, self.names.newest())?);
         Ok(())
     }
 
@@ -164,81 +172,11 @@ impl<'a, R: Files> Tapes for FileTapes<'a, R> {
             None => Err(ErrorKind::NotFound.into()),
         };
         match &put {
-            Ok(()) => self.whole = self.whole.saturating_add(octets.len() as u64),
+            Ok(()) => {
+                self.filled.latest = self.filled.latest.saturating_add(octets.len() as u64);
+            }
             Err(_) => self.take_back(),
         }
         put
     }
-}
-
-/// The octets of one read.
-const CHUNK: usize = 1 << 14;
-
-/// At most so many octets of a file, from a place on.
-///
-/// Errors: those of the machine's files; OutOfMemory.
-pub fn read_at<R: Files>(
-    rt: &R,
-    alloc: Global,
-    path: &str,
-    at: u64,
-    most: u64,
-) -> io::Result<Vec<u8>> {
-    let mut file = fs::open(rt, path)?;
-    file.seek(SeekFrom::Start(at))?;
-    let mut octets = Vec::new(alloc);
-    let mut chunk = [0; CHUNK];
-    for _ in 0..most {
-        let left = most.saturating_sub(octets.len() as u64);
-        let room = left.min(CHUNK as u64) as usize;
-        let count = file.read(&mut chunk[..room])?;
-        if count == 0 {
-            break;
-        }
-        octets.extend_from_slice(&chunk[..count])?;
-    }
-    Ok(octets)
-}
-
-/// One file, where there is one, and behind it another.
-#[derive(Drop)]
-pub struct InTurn<F> {
-    first: Option<F>,
-    last: F,
-}
-
-impl<F: Read + Drop> Read for InTurn<F> {
-    fn read(&mut self, octets: &mut [u8]) -> io::Result<usize> {
-        if let Some(first) = &mut self.first {
-            let count = first.read(octets)?;
-            if (count > 0) | octets.is_empty() {
-                return Ok(count);
-            }
-            self.first = None;
-        }
-        self.last.read(octets)
-    }
-}
-
-/// The files of a ring one after the other, from a place on. The one before the latest has so many octets, where there is one.
-///
-/// Errors: those of the machine's files.
-pub fn open_in_turn<R: Files>(
-    rt: &R,
-    names: &Names<'_>,
-    whole_before: Option<u64>,
-    offset: u64,
-) -> io::Result<InTurn<R::File>> {
-    let before = whole_before.unwrap_or(0);
-    let first = match names.older() {
-        Some(older) if offset < before => {
-            let mut file = fs::open(rt, older)?;
-            file.seek(SeekFrom::Start(offset))?;
-            Some(file)
-        }
-        _ => None,
-    };
-    let mut last = fs::open(rt, names.newest())?;
-    last.seek(SeekFrom::Start(offset.saturating_sub(before)))?;
-    Ok(InTurn { first, last })
 }
