@@ -1,5 +1,5 @@
 -- What stands in the document of a viewer (docs/FILES.md tells its members).
-use Rattle.std.specs.Prelude.{◌≡◌, ℕ, ◌+◌, ◌-◌, ◌^◌, min, sum, Bool, List, [], ◌∷◌, ◌++◌, codes, decimal, string_bytes, Option, None, Some, if◌then◌else◌}
+use Rattle.std.specs.Prelude.{◌≡◌, ℕ, ◌+◌, ◌-◌, ◌^◌, min, sum, Bool, true, false, List, [], ◌∷◌, ◌++◌, codes, decimal, string_bytes, Option, None, Some, if◌then◌else◌}
 use Rattle.sacn_capture.specs.declared.faults.CaptureFault.{CaptureFault}
 use Rattle.sacn_capture.specs.declared.faults.FaultKind.{FaultKind}
 use Rattle.sacn_capture.specs.declared.faults.FaultKind.TheVariants.{OutOfMemory, NotACapture, Version, LinkType, Length, Resolution, Interface, CutShort, Device}
@@ -16,6 +16,7 @@ use Rattle.sacn_page.specs.declared.document.Row.{Row}
 use Rattle.sacn_page.specs.declared.document.Extent.{Extent}
 use Rattle.sacn_page.specs.declared.document.Extent.TheVariants.{Whole, Changes}
 use Rattle.sacn_page.specs.declared.scene.Facts.{Facts}
+use Rattle.sacn_page.specs.declared.scene.Kept.{Kept}
 
 -- an object's first member, that is a number
 unfoldable pub first_number : List ℕ → ℕ → List ℕ
@@ -65,16 +66,21 @@ abbrev pub start_member : Option ℕ → List ℕ
 start_member None = codes ",\"start\":null"
 start_member (Some start) = number_member (codes "start") start
 
--- the first moment that is kept of it, where not all is
-abbrev pub from_member : Option ℕ → List ℕ
-from_member None = []
-from_member (Some from) = number_member (codes "from") from
+-- whether nothing more is kept of a network
+abbrev pub ended_member : Bool → List ℕ
+ended_member true = codes ",\"ended\":true"
+ended_member false = codes ",\"ended\":false"
+
+-- what is kept of a network: from which moment on, and whether that goes on
+abbrev pub kept_members : Option Kept → List ℕ
+kept_members None = []
+kept_members (Some kept) = number_member (codes "from") kept.from ++ ended_member kept.has_ended
 
 -- what is known of a recording as a whole
 unfoldable pub facts_object : Facts → List ℕ
 facts_object f =
     codes "{\"name\":" ++ (quoted (foreign_text (string_bytes f.name)) ++ (number_member (codes "length") f.length
-    ++ (start_member f.start ++ (fault_member f.fault ++ (from_member f.from ++ codes "}")))))
+    ++ (start_member f.start ++ (fault_member f.fault ++ (kept_members f.kept ++ codes "}")))))
 
 -- which source it is on which universe, and where it sends from
 unfoldable pub source_members : Stream → List ℕ

@@ -5,7 +5,7 @@ use Rattle.std.specs.Str.{str_eq_ignore_ascii_case}
 use Rattle.httparse.specs.Grammar.{RequestHead, ReadsRequest}
 use Rattle.httparse.specs.Spans.{name_and_value}
 use Rattle.sacn_page.specs.declared.request.RequestRefusal.{RequestRefusal}
-use Rattle.sacn_page.specs.declared.request.RequestRefusal.TheVariants.{Malformed, Moment, Body, Foreign, Missing, Method, TooLarge, Busy, Version, Unread}
+use Rattle.sacn_page.specs.declared.request.RequestRefusal.TheVariants.{Malformed, Moment, Body, Foreign, Missing, Method, TooLarge, Busy, Version, Unread, Slow}
 use Rattle.sacn_page.specs.declared.request.RequestReading.{RequestReading}
 use Rattle.sacn_page.specs.declared.request.RequestReading.TheVariants.{More, Asked, Refused}
 
@@ -21,6 +21,7 @@ status_of TooLarge = 431
 status_of Busy = 503
 status_of Version = 505
 status_of Unread = 500
+status_of Slow = 503
 
 -- a text is this word, in letters of either case
 unfoldable pub is_word : List ℕ → List ℕ → Bool

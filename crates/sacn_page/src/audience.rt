@@ -1,6 +1,7 @@
 //! The viewers of a network or of a recording, whatever their connections are.
 
 mod feeding;
+mod taking;
 
 use crate::feed::Feed;
 use crate::hosts::Hosts;

@@ -19,6 +19,7 @@ mod request;
 mod response;
 mod scene;
 mod server;
+mod tape;
 mod viewer;
 
 pub use alarms::{Alarm, Alarms, MAX_ALARMS, Pair, Trouble};
@@ -29,12 +30,13 @@ pub use feed::{Feed, MAX_WAIT, MIN_WAIT, Occasion, Owed};
 pub use hosts::{Hosts, is_word};
 pub use markup::{Subject, page};
 pub use members::push_facts;
-pub use recording::{MAX_MARKS, Recording, Tape};
+pub use recording::{MAX_MARKS, Recording};
 pub use replay::{Replay, Snapshot};
 pub use request::{
     MAX_FIELDS, MAX_HEAD, RequestReading, RequestRefusal, Target, has_body, is_own, read_request,
 };
 pub use response::{MediaType, event_stream_head, push_event, refusal_response, whole};
-pub use scene::{Copying, Facts, FilePlace, Scene, SeekFault, Window};
+pub use scene::{Copying, Facts, Kept, Scene, SeekFault, Window};
 pub use server::{Pages, Quiet};
+pub use tape::Tape;
 pub use viewer::{Connection, Goal, HEAD_TIME, LEAVE_TIME, Phase, STALL_TIME, Viewer};

@@ -1,11 +1,11 @@
 //! What stands in the document of a viewer (docs/FILES.md tells its members): a recording's facts, sources, levels, and who gives these.
 
 ghost use Rattle.std.specs.Prelude.{◌≡◌, ◌++◌, OnOk, codes, string_bytes, map};
-ghost use Rattle.sacn_page.specs.Documents.{digits_member, facts_object, fault_member, fault_name, fault_object, fault_value, first_number, foreign_member, from_member, long_digits_member, quoted, row_object, source_members, start_member, universe_member};
+ghost use Rattle.sacn_page.specs.Documents.{digits_member, ended_member, facts_object, fault_member, fault_name, fault_object, fault_value, first_number, foreign_member, kept_members, long_digits_member, quoted, row_object, source_members, start_member, universe_member};
 ghost use Rattle.sacn_tell.specs.Foreign.{foreign_text};
 ghost use Rattle.sacn_page.specs.Marks.{mark_of};
 
-use crate::scene::Facts;
+use crate::scene::{Facts, Kept};
 use sacn_capture::{CaptureFault, FaultKind};
 use sacn_monitor::Stream;
 use sacn_packets::{SLOTS, up_to_nul};
@@ -28,7 +28,7 @@ pub fn push_facts(text: &mut String, facts: &Facts) -> Result<(), AllocError>
     push_number(text, "length", facts.length)?;
     push_start(text, facts.start)?;
     push_fault_member(text, facts.fault)?;
-    push_from(text, facts.from)?;
+    push_kept(text, facts.kept)?;
     text.push('}')
 }
 
@@ -55,14 +55,29 @@ fn push_start(text: &mut String, start: Option<u64>) -> Result<(), AllocError>
     }
 }
 
-// The first moment that is kept, where not all is.
-fn push_from(text: &mut String, from: Option<u64>) -> Result<(), AllocError>
+// What is kept of a network.
+fn push_kept(text: &mut String, kept: Option<Kept>) -> Result<(), AllocError>
     ensures { OnOk result
-        (string_bytes text.new ≡ string_bytes text.old ++ from_member from) }
+        (string_bytes text.new ≡ string_bytes text.old ++ kept_members kept) }
 {
-    match from {
-        Some(from) => push_number(text, "from", from),
+    match kept {
+        Some(kept) => {
+            push_number(text, "from", kept.from)?;
+            push_ended(text, kept.has_ended)
+        }
         None => Ok(()),
+    }
+}
+
+// Whether nothing more is kept.
+fn push_ended(text: &mut String, has_ended: bool) -> Result<(), AllocError>
+    ensures { OnOk result
+        (string_bytes text.new ≡ string_bytes text.old ++ ended_member has_ended) }
+{
+    if has_ended {
+        text.push_str(",\"ended\":true")
+    } else {
+        text.push_str(",\"ended\":false")
     }
 }
 

@@ -6,7 +6,8 @@ ghost use Rattle.sacn_page.specs.Boards.{serves};
 
 use crate::board::Board;
 use crate::replay::{Replay, Snapshot};
-use crate::scene::{Facts, Scene, SeekFault};
+use crate::scene::{Facts, Kept, Scene, SeekFault};
+use crate::tape::Tape;
 use sacn_capture::{CaptureFault, FaultKind};
 use sacn_monitor::Endpoint;
 use sacn_packets::Reading;
@@ -22,42 +23,6 @@ pub const MAX_SNAPSHOTS: usize = 64;
 
 /// So many octets of the recording are between two snapshots, at least.
 pub const MIN_SPACING: u64 = 1 << 20;
-
-/// Where the octets of a recording are, to be read as often as is wanted.
-pub trait Tape {
-    type Reader: BufRead + Drop;
-
-    /// A reader of all its octets. One that was given before isn't read any more.
-    ///
-    /// Errors: those of the device.
-    fn rewind(&mut self) -> io::Result<Self::Reader>;
-
-    /// A reader of its octets behind the first so many. One that was given before isn't read any more.
-    ///
-    /// This one reads what is before them and leaves it out: where the device can go to a place there is a better one.
-    ///
-    /// Errors: those of the device.
-    fn rewind_to(&mut self, offset: u64) -> io::Result<Self::Reader> {
-        let mut reader = self.rewind()?;
-        pass_over(&mut reader, offset)?;
-        Ok(reader)
-    }
-}
-
-// Passes over so many octets, or all where there are fewer.
-fn pass_over<R: BufRead>(reader: &mut R, count: u64) -> io::Result<()> {
-    let mut left = count;
-    while left > 0 {
-        let ready = reader.fill_buf()?.len();
-        if ready == 0 {
-            return Ok(());
-        }
-        let passed = (ready as u64).min(left);
-        reader.consume(passed as usize);
-        left -= passed;
-    }
-    Ok(())
-}
 
 /// The steps after which a snapshot may be kept.
 const SNAPSHOT_STEPS: usize = 1024;
@@ -112,7 +77,7 @@ impl<T: Tape + Drop> Recording<T> {
             length: 0,
             start: origin.first,
             fault: None,
-            from: None,
+            kept: None,
         };
         Ok(Recording {
             alloc,
@@ -141,12 +106,19 @@ impl<T: Tape + Drop> Recording<T> {
         Ok(true)
     }
 
-    /// It is still written. From now on moments of it are sought from one to another, in milliseconds, behind which more came.
-    pub fn grow(&mut self, from: u64, to: u64) {
-        self.facts.from = Some(from);
+    /// It is what is kept of a network. From now on moments of it are sought up to this one, in milliseconds: more may have come by it.
+    pub fn grow(&mut self, kept: Kept, to: u64) {
+        self.facts.kept = Some(kept);
         self.facts.length = to;
         // (what has come to its end doesn't go on behind that)
         self.is_broken = self.is_broken | self.replay.is_over();
+    }
+
+    // Where no more came of a network up to this moment, what was known is that much older at it.
+    fn stand(&mut self, moment: u64) {
+        if self.facts.kept.is_some() & self.replay.is_over() {
+            self.replay.stand(moment);
+        }
     }
 
     /// What is wrong with it, once it was read to there.
@@ -162,7 +134,8 @@ impl<T: Tape + Drop> Recording<T> {
         while !is_there && left > 0 {
             let some = left.min(SNAPSHOT_STEPS);
             is_there = self.replay.advance(moment, some)?;
-            if !is_there {
+            // (more may come behind the end of a network's, and one that is over doesn't go on)
+            if !is_there & !self.replay.is_over() {
                 self.snapshots.keep(&self.replay);
             }
             left -= some;
@@ -305,6 +278,7 @@ impl<T: Tape + Drop> Scene for Recording<T> {
         self.begin(universe, until)?;
         let is_there = self.follow(until, steps)?;
         if is_there {
+            self.stand(until);
             if let Some(universe) = self.replay.board().chosen_universe(universe) {
                 self.replay.refresh(universe);
             }

@@ -40,7 +40,7 @@ pub enum Target {
 pub enum RequestRefusal {
     /// The head isn't one of HTTP, is cut off, or names no universe where it should.
     Malformed,
-    /// A moment is named that is no number, or of a network, which has none but the present.
+    /// A moment is named that is no number, or comes before one that it shouldn't, or of a network, which has none but the present.
     Moment,
     /// A body is announced.
     Body,
@@ -52,12 +52,14 @@ pub enum RequestRefusal {
     Method,
     /// The head is longer than `MAX_HEAD` octets, or has more than `MAX_FIELDS` fields.
     TooLarge,
-    /// There is no room for a further viewer, or for a further universe.
+    /// There is no room for a further viewer, universe or part of a recording.
     Busy,
     /// Another version than HTTP/1.0 and HTTP/1.1.
     Version,
     /// The recording can't be read any more.
     Unread,
+    /// The recording can't be read in time.
+    Slow,
 }
 
 /// What is known of a request, of which so much came.
@@ -85,6 +87,7 @@ impl RequestRefusal {
             RequestRefusal::Busy => 503,
             RequestRefusal::Version => 505,
             RequestRefusal::Unread => 500,
+            RequestRefusal::Slow => 503,
         }
     }
 }
@@ -94,6 +97,8 @@ impl From<SeekFault> for RequestRefusal {
         match fault {
             SeekFault::OutOfMemory => RequestRefusal::Busy,
             SeekFault::Device => RequestRefusal::Unread,
+            SeekFault::Slow => RequestRefusal::Slow,
+            SeekFault::Full => RequestRefusal::Busy,
         }
     }
 }
@@ -261,18 +266,22 @@ fn named_in(query: &str) -> Result<Named, RequestRefusal> {
     Ok(named)
 }
 
-// The window that a query names: its first moment and its last, in this order.
+// The window that a query names: its first moment and its last, in this order, the last no sooner.
 fn window_in(query: &str) -> Result<Window, RequestRefusal> {
     let Some((first, last)) = query.split_once('&') else {
         return Err(RequestRefusal::Malformed);
     };
     match (first.split_once('='), last.split_once('=')) {
-        (Some(("from", from)), Some(("to", to))) => Ok(Window {
-            from: moment_of(from)?,
-            to: moment_of(to)?,
-        }),
+        (Some(("from", from)), Some(("to", to))) => window_of(moment_of(from)?, moment_of(to)?),
         _ => Err(RequestRefusal::Malformed),
     }
+}
+
+fn window_of(from: u64, to: u64) -> Result<Window, RequestRefusal> {
+    if from > to {
+        return Err(RequestRefusal::Moment);
+    }
+    Ok(Window { from, to })
 }
 
 fn universe_of(digits: &str) -> Result<u16, RequestRefusal> {

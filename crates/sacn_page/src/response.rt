@@ -9,7 +9,7 @@ use crate::markup::{Subject, page};
 use crate::members::push_facts;
 use crate::request::{RequestRefusal, Target};
 use crate::scene::{Facts, Scene, Window};
-use crate::viewer::{Connection, Goal, Phase, Viewer};
+use crate::viewer::{Connection, Phase, Viewer};
 use std::alloc::{AllocError, Global};
 use std::fmt::Write;
 
@@ -54,6 +54,7 @@ impl RequestRefusal {
             RequestRefusal::Busy => "Service Unavailable",
             RequestRefusal::Version => "HTTP Version Not Supported",
             RequestRefusal::Unread => "Internal Server Error",
+            RequestRefusal::Slow => "Service Unavailable",
         }
     }
 
@@ -62,7 +63,7 @@ impl RequestRefusal {
         match self {
             RequestRefusal::Malformed => "The request can't be read.",
             RequestRefusal::Moment => {
-                "at is a moment of a recording: milliseconds from its first packet, in decimal digits."
+                "A moment is milliseconds of a recording, in decimal digits; that of to isn't before that of from."
             }
             RequestRefusal::Body => "A request with a body isn't taken.",
             RequestRefusal::Foreign => "This isn't the name of this server.",
@@ -70,9 +71,10 @@ impl RequestRefusal {
                 "There is / and /state, and of a network /events and /audit, of a recording /recording.",
             RequestRefusal::Method => "Nothing can be ordered here: only GET is taken.",
             RequestRefusal::TooLarge => "The head of the request is too large.",
-            RequestRefusal::Busy => "There is no room for a further viewer or universe.",
+            RequestRefusal::Busy => "There is no room for a further viewer, universe or part.",
             RequestRefusal::Version => "Only HTTP/1.0 and HTTP/1.1 are spoken.",
             RequestRefusal::Unread => "The recording can't be read.",
+            RequestRefusal::Slow => "The disk takes too long now.",
         }
     }
 }
@@ -95,12 +97,13 @@ pub fn event_stream_head(alloc: Global) -> Result<String, AllocError> {
     Ok(text)
 }
 
-/// The head of an answer that is a part of a recording, whose octets follow up to the end of the connection.
+/// The head of an answer that is a part of a recording, of which so many octets follow.
 ///
 /// Errors: a growth was refused.
-pub fn part_head(alloc: Global, window: Window) -> Result<String, AllocError> {
+pub fn part_head(alloc: Global, window: Window, len: u64) -> Result<String, AllocError> {
     let mut text = head_of(alloc, 200, "OK", MediaType::Recording)?;
     let Window { from, to } = window;
+    write!(text, "Content-Length: {len}\r\n")?;
     write!(
         text,
         "Content-Disposition: attachment; filename=\"sacn-{from}-{to}.pcapng\"\r\n\r\n"
@@ -115,7 +118,7 @@ pub fn refusal_response(alloc: Global, refusal: RequestRefusal) -> Result<String
     let mut text = head_of(alloc, refusal.status(), refusal.reason(), MediaType::Text)?;
     match refusal {
         RequestRefusal::Method => text.push_str("Allow: GET\r\n")?,
-        RequestRefusal::Busy => text.push_str("Retry-After: 5\r\n")?,
+        RequestRefusal::Busy | RequestRefusal::Slow => text.push_str("Retry-After: 5\r\n")?,
         _ => {}
     }
     let mut body = String::new(alloc);
@@ -230,11 +233,7 @@ pub fn answer<C: Connection + Drop, S: Scene + Drop>(
         Target::State(named, None) => show_state(alloc, scene, viewer, named, watched, now),
         Target::State(universe, moment) => match scene.recall() {
             Ok(true) => {
-                viewer.wait(Goal {
-                    universe,
-                    moment,
-                    turn: question.turn,
-                });
+                viewer.wait(universe, moment, question.turn);
                 Ok(())
             }
             Ok(false) => refuse(alloc, viewer, RequestRefusal::Moment, now),
@@ -246,24 +245,28 @@ pub fn answer<C: Connection + Drop, S: Scene + Drop>(
             Ok(false) => refuse(alloc, viewer, RequestRefusal::Missing, now),
             Err(fault) => refuse(alloc, viewer, RequestRefusal::from(fault), now),
         },
-        Target::Part(window) => begin_part(alloc, scene, viewer, window, now),
+        Target::Part(window) => open_part(alloc, scene, viewer, window, question),
         Target::Findings => show_findings(alloc, scene, viewer, now),
     }
 }
 
-// The head of an answer whose octets follow: the packets of a window.
-fn begin_part<C: Connection + Drop, S: Scene + Drop>(
+// Opens the part of a window for a viewer.
+fn open_part<C: Connection + Drop, S: Scene + Drop>(
     alloc: Global,
-    scene: &S,
+    scene: &mut S,
     viewer: &mut Viewer<C>,
     window: Window,
-    now: u64,
+    question: Question,
 ) -> Result<(), AllocError> {
-    let Some(copying) = scene.copying(window) else {
-        return refuse(alloc, viewer, RequestRefusal::Missing, now);
+    let refusal = match scene.open_part(window, question.turn) {
+        Ok(true) => {
+            viewer.take_part(window, question.turn);
+            return Ok(());
+        }
+        Ok(false) => RequestRefusal::Missing,
+        Err(fault) => RequestRefusal::from(fault),
     };
-    let text = part_head(alloc, window)?;
-    viewer.give(text.as_str(), Phase::Taking(copying), now)
+    refuse(alloc, viewer, refusal, question.now)
 }
 
 // What is known of a recording as a whole.
@@ -307,11 +310,7 @@ fn answer_of_recording<C: Connection + Drop, S: Scene + Drop>(
             give(alloc, viewer, MediaType::Page, body.as_str(), now)
         }
         Target::State(universe, moment) => {
-            viewer.wait(Goal {
-                universe,
-                moment,
-                turn: question.turn,
-            });
+            viewer.wait(universe, moment, question.turn);
             Ok(())
         }
         Target::Events(_) | Target::Findings | Target::Part(_) => {

@@ -18,8 +18,17 @@ pub struct Facts {
     pub start: Option<u64>,
     /// What is wrong with it, and where. What is before that is shown.
     pub fault: Option<CaptureFault>,
-    /// Of a recording of which only the latest part is kept, the first moment of that, in milliseconds.
-    pub from: Option<u64>,
+    /// Of a network of which the last minutes are kept, what these are.
+    pub kept: Option<Kept>,
+}
+
+/// What is kept of a network.
+#[derive(Clone, Copy)]
+pub struct Kept {
+    /// The first moment from which on all that came is kept, in milliseconds.
+    pub from: u64,
+    /// Nothing more is kept: it couldn't be written.
+    pub has_ended: bool,
 }
 
 /// The moments from one to another, both among them, in milliseconds of the page.
@@ -29,22 +38,14 @@ pub struct Window {
     pub to: u64,
 }
 
-/// A place among the files of a recording, of which the first has number 0.
-#[derive(Clone, Copy, PartialEq, Eq)]
-pub struct FilePlace {
-    pub file: u64,
-    /// How many octets of the file are before it.
-    pub at: u64,
-}
-
-/// How far a viewer has taken a part of a recording.
+/// A part of what is kept, which a viewer takes.
 #[derive(Clone, Copy, PartialEq, Eq)]
 pub struct Copying {
     pub window: Window,
-    /// Where it goes on; None where nothing was copied yet.
-    pub place: Option<FilePlace>,
-    /// Where it ends at the latest: what was kept when it was asked for.
-    pub end: FilePlace,
+    /// What the scene knows it by.
+    pub number: u64,
+    /// The head of its answer, which says how many octets it has, was given.
+    pub has_head: bool,
 }
 
 /// Why a moment of a recording can't be shown.
@@ -56,6 +57,12 @@ pub enum SeekFault {
     /// The recording can't be read any more.
     #[error("the recording can't be read")]
     Device,
+    /// The device takes too long now.
+    #[error("the recording is read too slowly")]
+    Slow,
+    /// As many parts are taken as may be at once.
+    #[error("no further part can be taken")]
+    Full,
 }
 
 impl From<AllocError> for SeekFault {
@@ -142,21 +149,29 @@ pub trait Scene {
         self.board()
     }
 
-    /// The copying of a window of what is kept beside a network, where something is, up to what is kept now.
-    fn copying(&self, _window: Window) -> Option<Copying> {
-        None
+    /// Opens the part of what is kept by now whose moments lie in a window, under a number, and returns whether anything is kept.
+    ///
+    /// Errors: OutOfMemory; Device or Slow where what is kept can't be opened; Full where as many are open as may be.
+    fn open_part(&mut self, _window: Window, _number: u64) -> Result<bool, SeekFault> {
+        Ok(false)
     }
 
-    /// Copies some octets on, which may be none, and returns where it goes on; None at its end.
+    /// Goes on to count the octets of the part of a number, and returns how many they are once all are counted.
     ///
-    /// Errors: OutOfMemory; Device where what is kept can't be read.
-    fn copy(
-        &mut self,
-        _copying: Copying,
-        _octets: &mut Vec<u8>,
-    ) -> Result<Option<Copying>, SeekFault> {
-        Ok(None)
+    /// Errors: OutOfMemory; Device or Slow where they can't be read.
+    fn count_part(&mut self, _number: u64) -> Result<Option<u64>, SeekFault> {
+        Err(SeekFault::Device)
     }
+
+    /// Adds the next octets of the part of a number, which may be none, and returns whether there are more.
+    ///
+    /// Errors: as of `count_part`.
+    fn copy_part(&mut self, _number: u64, _octets: &mut Vec<u8>) -> Result<bool, SeekFault> {
+        Err(SeekFault::Device)
+    }
+
+    /// Closes the parts of all numbers but these.
+    fn close_parts(&mut self, _but: &[u64]) {}
 }
 
 /// A network as it is heard.

@@ -8,7 +8,7 @@ use crate::feed::Feed;
 use crate::hosts::Hosts;
 use crate::outbox::Outbox;
 use crate::request::{MAX_HEAD, RequestReading, RequestRefusal, read_request};
-use crate::scene::Copying;
+use crate::scene::{Copying, Window};
 use std::alloc::{AllocError, Global};
 use std::io::{ErrorKind, Read, Write};
 
@@ -244,9 +244,23 @@ impl<C: Connection> Viewer<C> {
         Ok(text.len())
     }
 
-    /// Lets it wait for a moment of a recording.
-    pub fn wait(&mut self, goal: Goal) {
-        self.phase = Phase::Waiting(goal);
+    /// Lets it wait for a moment of a recording, with this universe where it named one. So many had asked before.
+    pub fn wait(&mut self, universe: Option<u16>, moment: Option<u64>, turn: u64) {
+        self.phase = Phase::Waiting(Goal {
+            universe,
+            moment,
+            turn,
+        });
+        self.deadline = u64::MAX;
+    }
+
+    /// Lets it take the part of a window, once the head of its answer is known.
+    pub fn take_part(&mut self, window: Window, number: u64) {
+        self.phase = Phase::Taking(Copying {
+            window,
+            number,
+            has_head: false,
+        });
         self.deadline = u64::MAX;
     }
 

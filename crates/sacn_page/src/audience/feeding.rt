@@ -1,8 +1,8 @@
-//! How viewers are given events, and parts of a recording.
+//! How viewers are given events.
 
 use super::{Audience, MAX_CONNECTIONS};
 use crate::feed::{Feed, Occasion, Owed};
-use crate::scene::{Copying, Scene, SeekFault};
+use crate::scene::Scene;
 use crate::viewer::{Connection, Phase, Viewer};
 use std::alloc::AllocError;
 
@@ -163,58 +163,5 @@ impl<C: Connection + Drop, S: Scene + Drop> Audience<C, S> {
             }
         }
         0
-    }
-}
-
-// How far a viewer is that takes a part of a recording, and took all that it was given of it.
-fn taken_by<C: Connection>(viewer: &Viewer<C>) -> Option<Copying> {
-    match viewer.phase() {
-        Phase::Taking(copying) if viewer.is_idle() => Some(copying),
-        _ => None,
-    }
-}
-
-impl<C: Connection + Drop, S: Scene + Drop> Audience<C, S> {
-    // Gives one of those that take a part of the recording what comes next of it: each turn another one.
-    pub(super) fn hand_on(&mut self, now: u64) {
-        for _ in 0..MAX_CONNECTIONS {
-            let key = self.taker;
-            self.taker = if key < MAX_CONNECTIONS - 1 {
-                key + 1
-            } else {
-                0
-            };
-            let taken = match self.viewers.get(key) {
-                Some(viewer) => taken_by(viewer),
-                None => None,
-            };
-            if let Some(copying) = taken {
-                self.give_part(key, copying, now);
-                return;
-            }
-        }
-    }
-
-    // Gives the viewer of a key what comes next. One for which it can't be had goes.
-    fn give_part(&mut self, key: usize, copying: Copying, now: u64) {
-        if self.give_next(key, copying, now).is_err() {
-            let _ = self.viewers.try_remove(key);
-        }
-    }
-
-    fn give_next(&mut self, key: usize, copying: Copying, now: u64) -> Result<(), SeekFault> {
-        let mut octets = Vec::new(self.alloc);
-        let next = match self.scene.copy(copying, &mut octets)? {
-            Some(copying) => Phase::Taking(copying),
-            None => Phase::Answered,
-        };
-        let Some(viewer) = self.viewers.get_mut(key) else {
-            return Ok(());
-        };
-        viewer.give_octets(octets.as_slice(), next, now)?;
-        if viewer.phase() == Phase::Gone {
-            let _ = self.viewers.try_remove(key);
-        }
-        Ok(())
     }
 }

@@ -60,9 +60,24 @@ async function followReach() {
   part('time').min = String(film.first);
   part('time').max = String(film.length);
   put(part('length'), `since the watch began; the last ${spelled(film.length - film.first)} are kept`);
+  part('fault').hidden = !reach.ended;
+  if (reach.ended) put(part('fault'), `Nothing is recorded any more since ${timeOfDay(film.length)}: a file couldn't be written, and standard error of the watch says why. What was recorded before can be looked at.`);
   part('marks').replaceChildren();
-  for (const line of gathered(known.alarms)) add(part('marks'), 'option').value = String(line.ms);
+  for (const line of gathered(known.alarms)) if (isReached(line)) add(part('marks'), 'option').value = String(line.ms);
+  for (const item of part('alarms').children) offer(item);
   showTime();
+}
+// An alarm's button goes to its moment, where that is kept.
+function isReached(alarm) { return film.isKnown && alarm.ms >= film.first && alarm.ms <= film.length; }
+function offer(item) {
+  const is = isReached(item.alarms[0]);
+  item.firstChild.disabled = !is;
+  item.firstChild.title = is ? '' : 'This moment isn\'t kept.';
+}
+function leadBack(item) {
+  item.firstChild.type = 'button';
+  item.firstChild.disabled = true;
+  item.firstChild.addEventListener('click', () => moveTo(item.alarms[0].ms));
 }
 function lookBack(is) {
   if (isBack === is) return;

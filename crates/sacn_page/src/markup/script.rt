@@ -366,10 +366,7 @@ function itemOf(list, line) {
   const item = document.createElement('li'), told = isKept ? add(item, 'button') : item;
   add(told, 'time', clock.format(new Date(isBack ? film.start + line.ms : Date.now() - (now() - line.ms))));
   told.append('');
-  if (isKept) {
-    told.type = 'button';
-    told.addEventListener('click', () => moveTo(item.alarms[0].ms));
-  }
+  if (isKept) leadBack(item);
   list.prepend(item);
   return item;
 }

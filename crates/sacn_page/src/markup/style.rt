@@ -33,7 +33,7 @@ p { margin: .75rem 0 0; } #time-part { position: sticky; top: 0; z-index: 2; }
 [data-shows=recording] :is(#graph, #audit-part), .back #graph { display: none; } .back #name { color: var(--warn); } summary { cursor: pointer; font-weight: 700; } #alarms button { width: 100%; overflow-wrap: anywhere; } #alarms .later button { color: var(--dim); }
 .stale main { opacity: .45; filter: grayscale(1); }
 button { font: inherit; color: inherit; background: var(--ground); border: 1px solid var(--line); border-radius: 6px; padding: .3rem .6rem; cursor: pointer; text-align: left; }
-button[aria-current=true], button[aria-pressed=true] { border-color: var(--focus); box-shadow: inset 0 0 0 1px var(--focus); }
+button:disabled { color: var(--dim); cursor: default; } button[aria-current=true], button[aria-pressed=true] { border-color: var(--focus); box-shadow: inset 0 0 0 1px var(--focus); }
 :focus-visible { outline: 3px solid var(--focus); outline-offset: 1px; }
 #universes { display: flex; flex-wrap: wrap; gap: .4rem; list-style: none; }
 #universes, #alarms, #grid { overflow: auto; margin: -5px; padding: 5px; scroll-padding: 5px; }
