@@ -15,6 +15,7 @@ mod page;
 mod piped;
 mod port;
 mod program;
+mod recalled;
 mod recent_deeds;
 mod record;
 mod recording;

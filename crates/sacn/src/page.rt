@@ -1,6 +1,7 @@
 //! A watch that browsers see.
 use crate::black_box::{Ring, RingListener, RingPlace};
-use crate::judged::{Judged, Recalled, judged_of};
+use crate::judged::{Judged, judged_of};
+use crate::recalled::Recalled;
 use crate::record::{MINUTE, host_of, say_ring, say_unwritten};
 use crate::watch::{Place, receiver_at, watch_end};
 use sacn_commands::ending::Ending;

@@ -134,7 +134,6 @@ fn advice_of(kind: ErrorKind) -> Option<&'static str> {
         ErrorKind::PermissionDenied => {
             Some("who runs this may not write there: choose a folder of your own")
         }
-        ErrorKind::TimedOut => Some("the disk is too slow for what is heard: choose another one"),
         ErrorKind::StorageFull => { Some("the disk is full: what was recorded before can be read") }
         _ => None,
     }
