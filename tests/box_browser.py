@@ -1,6 +1,6 @@
 #!/usr/bin/env python3
 """Looks in a headless Chromium at the page of a watch that keeps the last minutes: its slider back to moments before now, by its keys, by an alarm's button and by the
-button that plays; a part as a file; and back to now. Prints 'ok NAME', 'not ok NAME: why' or 'skipped NAME: why' for each look.
+button that plays; a part as a file; back to now; the dark behind the last packet; alarms that are no longer kept, and the end of the recording. Prints 'ok NAME', 'not ok NAME: why' or 'skipped NAME: why' for each look.
 
 usage: box_browser.py SACN [PICTURES]
 
@@ -34,12 +34,12 @@ class Console(threading.Thread):
 
     def __init__(self):
         super().__init__(daemon=True)
-        self.level, self.has_spare = 16, True
+        self.level, self.has_spare, self.is_on = 16, True, True
         self.numbers = {1: itertools.count(), 2: itertools.count()}
         self.out = socket.socket(socket.AF_INET, socket.SOCK_DGRAM)
 
     def run(self):
-        while True:
+        while self.is_on:
             self.send(1, b"Crowd", 0)
             if self.has_spare:
                 self.send(2, b"Spare", 0)
@@ -65,6 +65,7 @@ def began(browser, console):
     browser.open(f"http://127.0.0.1:{PAGE}/")
     console.start()
     shown = [browser.until(f"{LEVEL} == '16'", 20)]
+    console.first = browser.js("return Math.round(now())")
     time.sleep(1.5)
     console.level = 17
     shown.append(browser.until(f"{LEVEL} == '17'", 20))
@@ -85,9 +86,12 @@ def began(browser, console):
 
 
 def went_back(browser, console):
-    press(browser, "home", "right")
+    press(browser, "home")
+    took = browser.until(f"{IS_BACK} && film.at == 0 && !document.getElementById('no-universes').hidden && {STATES} == ''", 20)
+    verdict("at its first moment nobody was heard", took is not None, browser.js(f"return [film.at, {STATES}]"))
+    browser.js(f"moveTo({console.first})")
     took = browser.until(f"{IS_BACK} && {LEVEL} == '16' && {STATES} == '1 sending,2 sending'", 20)
-    verdict("a second after its first moment it has the first levels", took is not None, browser.js(f"return [{LEVEL}, {STATES}]"))
+    verdict("when the first levels were shown it has these", took is not None, browser.js(f"return [{LEVEL}, {STATES}]"))
     browser.picture("box-back")
     console.level = 77
     time.sleep(1.5)
@@ -127,17 +131,44 @@ def saved(browser, _console):
     verdict("without a mark it is the minute before the moment", where == f"/recording?from={max(first, last - 60000)}&to={last}", where)
 
 
-def came_to_now(browser, _console):
+def came_to_now(browser, console):
     browser.js("document.getElementById('live').click()")
     took = browser.until(f"{IS_NOW} && {LEVEL} == '77'", 20)
     verdict("the button 'now' shows now", took is not None, browser.js(f"return [{LEVEL}]"))
-    press(browser, "home")
+    browser.js(f"moveTo({console.first})")
     browser.until(f"{IS_BACK} && {LEVEL} == '16'", 20)
     browser.js("document.getElementById('play').click()")
     took = browser.until(f"{LEVEL} == '17'", 10)
     press(browser, "end")
     rest = browser.until(f"{IS_NOW} && {LEVEL} == '77'", 20)
     verdict("it plays, and at its end it shows now", took is not None and took > 0.5 and rest is not None, f"{took} {rest}")
+
+
+def went_dark(browser, console):
+    console.is_on = False
+    lines = "[...document.querySelectorAll('#alarms button')].filter((it) => /lost/.test(it.textContent))"
+    took = browser.until(f"{lines}.length == 1 && !{lines}[0].disabled", 20)
+    browser.js(f"{lines}[0].click()")
+    dark = browser.until(f"{IS_BACK} && {STATES} == '1 lost,2 ended'", 20)
+    verdict("the loss of the last source can be gone to", took is not None and dark is not None, browser.js(f"return [film.at, film.length, {STATES}]"))
+    browser.js("moveTo(film.at - 100)")
+    light = browser.until(f"{LEVEL} == '77' && {STATES} == '1 sending,2 ended'", 20)
+    press(browser, "end")
+    end = browser.until(f"{IS_BACK} && {STATES} == '1 lost,2 ended'", 20)
+    verdict("before it there was light, and at the end it is dark", light is not None and end is not None, browser.js(f"return [film.at, {LEVEL}, {STATES}]"))
+
+
+def told_ends(browser, _console):
+    """What the program tells of a ring that has turned, and of one that has ended, told here in its place."""
+    browser.js("window.asTold = told; told = async (path) => { const it = await asTold(path); return path === '/recording' ? { ...it, from: it.length - 1000, ended: true } : it; }")
+    took = browser.until("[...document.querySelectorAll('#alarms button')].every((it) => it.disabled && it.title) && document.querySelectorAll('#marks option').length == 0", 20)
+    verdict("an alarm whose moment is no longer kept has no tick, and leads nowhere", took is not None, browser.js("return document.getElementById('alarms').innerHTML"))
+    took = browser.until("!document.getElementById('fault').hidden && /^Nothing is recorded any more since /.test(document.getElementById('fault').textContent)", 20)
+    verdict("the page says that the recording has ended", took is not None)
+    browser.picture("box-ended")
+    browser.js("told = asTold")
+    took = browser.until("document.getElementById('fault').hidden && [...document.querySelectorAll('#alarms button')].every((it) => !it.disabled)", 20)
+    verdict("and not where it goes on", took is not None)
 
 
 def main():
@@ -156,7 +187,7 @@ def main():
             except OSError:
                 time.sleep(0.1)
         browser.size(1400, 1000)
-        for look in (began, went_back, saved, came_to_now):
+        for look in (began, went_back, saved, came_to_now, went_dark, told_ends):
             look(browser, console)
         faults = [it["message"] for it in browser.ask("POST", "/se/log", {"type": "browser"}) if it["level"] == "SEVERE" and "/recording" not in it["message"]]
         verdict("the browser has nothing to complain of", not faults, f"{faults[:3]}")
