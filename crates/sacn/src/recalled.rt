@@ -229,8 +229,10 @@ impl<'b, 'a, R: Files + Clock> Scene for Recalled<'b, 'a, R> {
         let began = self.begin_reading();
         let opened = self.open_now(window, number);
         let part = self.in_time(began, opened)?;
-        self.parts.push(part)?;
-        Ok(true)
+        match self.parts.push(part) {
+            Ok(()) => Ok(true),
+            Err(_) => Err(SeekFault::OutOfMemory),
+        }
     }
 
     fn count_part(&mut self, number: u64) -> Result<Option<u64>, SeekFault> {

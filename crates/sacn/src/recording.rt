@@ -112,7 +112,7 @@ fn read_all<R: Files, L: Listener, E: Write>(
             Ok(true) => return Ok(true),
             Ok(false) => {}
             Err(SeekFault::OutOfMemory) => return Err(Ending::OutOfMemory),
-            Err(SeekFault::Device) => return Err(say_unread(path, err)),
+            Err(_) => return Err(say_unread(path, err)),
         }
         if listener.has_ended() {
             break;

@@ -140,7 +140,7 @@ impl From<SeekFault> for WorkFault {
     fn from(fault: SeekFault) -> Self {
         match fault {
             SeekFault::OutOfMemory => WorkFault::OutOfMemory,
-            SeekFault::Device => WorkFault::from(CaptureFault {
+            _ => WorkFault::from(CaptureFault {
                 at: 0,
                 kind: FaultKind::Device,
             }),

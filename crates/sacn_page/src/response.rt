@@ -63,7 +63,7 @@ impl RequestRefusal {
         match self {
             RequestRefusal::Malformed => "The request can't be read.",
             RequestRefusal::Moment => {
-                "A moment is milliseconds of a recording, in decimal digits; that of to isn't before that of from."
+                "at is a moment of a recording: milliseconds in decimal digits. So are from and to, in this order."
             }
             RequestRefusal::Body => "A request with a body isn't taken.",
             RequestRefusal::Foreign => "This isn't the name of this server.",
