@@ -85,16 +85,19 @@ for it in turning kept; do wait_for_line "$it.err" '^page'; done
 [ "$(sed -n 2p kept.err)" = "keeps the last 5 minutes in kept/ring.pcapng, and up to 5 before these in kept/ring-older.pcapng" ]
 verdict "it tells its files" $? "$(sed -n 2p kept.err)"
 
-# answers NAME STATUS WORD..: curl is answered so; the answer is in body
+# answers NAME STATUS WORD..: curl is answered so; the answer is in body. (A machine that is busy for half a second is as slow as its disk would be: 503.)
 answers() {
   local name=$1 wanted=$2 status
   shift 2
-  status=$(curl -s -m 30 -o body -w '%{http_code}' "$@")
+  for _ in 1 2 3 4 5 6; do
+    status=$(curl -s -m 30 -o body -w '%{http_code}' "$@")
+    [ "$status" = 503 ] && [ "$wanted" != 503 ] || break
+  done
   [ "$status" = "$wanted" ]
   verdict "$name" $? "$status $(head -c 100 body | tr -cd '[:print:]')"
 }
-# tells PYTHON: whether this holds of the answer `it`
-tells() { python3 -c "import json, sys; it = json.load(open('body')); sys.exit(not ($1))"; }
+# tells PYTHON [BEFORE]: whether this holds of the answer `it`, after these statements
+tells() { python3 -c "import json, sys; it = json.load(open('body')); ${2:-pass}; sys.exit(not ($1))" 2>/dev/null; }
 # number PYTHON: a number of the answer `it`
 number() { python3 -c "import json; it = json.load(open('body')); print($1)"; }
 # has_heard N [AT]: waits until the live page knows of so many datagrams
@@ -147,7 +150,9 @@ at() {
   verdict "$1: its levels" $? "$(head -c 300 body)"
 }
 at "the moment of the first packet" "$first" 16 1
-at "the moment before the second" $((second - 1)) 16 1
+answers "the moment before the second" 200 "$at/state?at=$((second - 1))&universe=1"
+tells "it['ms'] == $second - 1 and it['counts']['datagrams'] == 1"
+verdict "the second hadn't come at that" $? "$(head -c 300 body)"
 at "the moment of the second" "$second" 32 2
 at "the moment of the last" "$newest" 48 3
 answers "now" 200 "$at/state"
@@ -161,13 +166,15 @@ wait_until is_lost
 lost=$((newest + 2500))
 wait_until is_kept $((lost + 1))
 verdict "what is kept goes on without a packet" $? "$(cat body) $lost"
-at "the moment before the loss of the only source" $((lost - 1)) 48 3
-tells "it['alarms'] == [] and it['sources'][0]['state'] == 'sending'"
-verdict "nothing is lost then" $? "$(grep -o '"alarms":.*' body)"
 curl -s -m 10 -o live "$at/state"
+# (a busy machine may have stopped the program, which isn't recorded, and have lost the source before)
+told="live = json.load(open('live')); told = [it for it in live['alarms'] if it['kind'] != 'stopped']"
+at "the moment before the loss of the only source" $((lost - 1)) 48 3
+tells "it['alarms'] == told[:-1] and it['sources'][0]['state'] == 'sending'" "$told"
+verdict "it isn't lost then" $? "$(grep -o '"alarms":.*' body)"
 answers "a moment behind it" 200 "$at/state?at=$((lost + 1))&universe=1"
-tells "[it['kind'] for it in it['alarms']] == ['lost'] and it['sources'][0]['state'] == 'lost' and all(it[key] == json.load(open('live'))[key] for key in ('alarms', 'levels', 'winners'))"
-verdict "it is the dark that the page of now shows" $? "$(head -c 100 live) $(grep -o '"alarms":.*' live) $(grep -o '"alarms":.*' body)"
+tells "it['alarms'] == told and (told[-1]['kind'], told[-1]['ms']) == ('lost', $lost) and it['sources'][0]['state'] == 'lost' and all(it[key] == live[key] for key in ('levels', 'winners'))" "$told"
+verdict "it is the dark that the page of now shows" $? "$(grep -o '"alarms":.*' live) $(grep -o '"alarms":.*' body)"
 
 # A stop of the program: its clock stands still meanwhile, and that of what is kept with it.
 kill -STOP "$kept"
@@ -213,7 +220,7 @@ verdict "the part is a whole recording" $? "$(head -n 1 told.err)"
 answers "all of it, later" 200 "$at/recording?from=0&to=99999999"
 [ "$(stat -c %s kept/ring.pcapng)" = $((108 + 2004 * 700)) ] && cmp -s body kept/ring.pcapng
 verdict "nothing of it is missing" $? "$(stat -c '%n %s' body kept/ring.pcapng | paste -s -d ' ')"
-at "a moment long ago" $((second - 1)) 16 1
+at "a moment long ago" "$first" 16 1
 
 # Who asks for a part and takes nothing of it holds nobody up, but has one of four places; and has all of it later, also where the file has lost its name by then.
 # (segments as short as on a wire keep the kernel from holding a whole part for them)

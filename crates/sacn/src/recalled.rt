@@ -68,8 +68,9 @@ impl<'b, 'a, R: Files + Clock> Recalled<'b, 'a, R> {
         }
     }
 
-    // What was read since a reading of the machine's clock, unless that took too long.
-    fn in_time<T: Drop>(&self, began: u64, read: Result<T, SeekFault>) -> Result<T, SeekFault> {
+    // Whether more may be read for one who looks, or where what was read failed why: not where the disk has taken too long since a
+    // reading of the machine's clock.
+    fn in_time(&self, began: u64) -> Result<(), SeekFault> {
         let is_late = match self.ring.try_borrow_mut() {
             Ok(mut ring) => ring.is_late(began),
             Err(_) => false,
@@ -77,7 +78,7 @@ impl<'b, 'a, R: Files + Clock> Recalled<'b, 'a, R> {
         if is_late {
             return Err(SeekFault::Slow);
         }
-        read
+        Ok(())
     }
 
     // Sees to it that what the ring keeps now can be sought.
@@ -194,7 +195,11 @@ impl<'b, 'a, R: Files + Clock> Scene for Recalled<'b, 'a, R> {
     ) -> Result<bool, SeekFault> {
         let began = self.begin_reading();
         let sought = self.seek_back(universe, moment, steps);
-        self.in_time(began, sought)
+        if let Ok(true) = sought {
+            return Ok(true);
+        }
+        self.in_time(began)?;
+        sought
     }
 
     fn is_kept(&self) -> bool {
@@ -203,8 +208,10 @@ impl<'b, 'a, R: Files + Clock> Scene for Recalled<'b, 'a, R> {
 
     fn recall(&mut self) -> Result<bool, SeekFault> {
         let began = self.begin_reading();
-        let looked = self.look_back();
-        self.in_time(began, looked)?;
+        if let Err(fault) = self.look_back() {
+            self.in_time(began)?;
+            return Err(fault);
+        }
         Ok(true)
     }
 
@@ -226,9 +233,7 @@ impl<'b, 'a, R: Files + Clock> Scene for Recalled<'b, 'a, R> {
         if self.parts.len() >= MAX_PARTS {
             return Err(SeekFault::Full);
         }
-        let began = self.begin_reading();
-        let opened = self.open_now(window, number);
-        let part = self.in_time(began, opened)?;
+        let part = self.open_now(window, number)?;
         match self.parts.push(part) {
             Ok(()) => Ok(true),
             Err(_) => Err(SeekFault::OutOfMemory),
@@ -241,7 +246,11 @@ impl<'b, 'a, R: Files + Clock> Scene for Recalled<'b, 'a, R> {
             Some(part) => part.count(),
             None => Err(SeekFault::Device),
         };
-        self.in_time(began, counted)
+        if let Ok(Some(len)) = counted {
+            return Ok(Some(len));
+        }
+        self.in_time(began)?;
+        counted
     }
 
     fn copy_part(&mut self, number: u64, octets: &mut Vec<u8>) -> Result<bool, SeekFault> {
@@ -250,7 +259,11 @@ impl<'b, 'a, R: Files + Clock> Scene for Recalled<'b, 'a, R> {
             Some(part) => part.copy(octets),
             None => Err(SeekFault::Device),
         };
-        self.in_time(began, copied)
+        if let Ok(false) = copied {
+            return Ok(false);
+        }
+        self.in_time(began)?;
+        copied
     }
 
     fn close_parts(&mut self, but: &[u64]) {

@@ -140,6 +140,10 @@ impl<T: Tape + Drop> Recording<T> {
             }
             left -= some;
         }
+        // (where its last step came to the end it is there: a network's would begin anew for what is behind that)
+        if !is_there & self.replay.is_over() {
+            is_there = self.replay.advance(moment, 1)?;
+        }
         self.is_broken = false;
         Ok(is_there)
     }
