@@ -254,16 +254,11 @@ impl<'b, 'a, R: Files + Clock> Scene for Recalled<'b, 'a, R> {
     }
 
     fn copy_part(&mut self, number: u64, octets: &mut Vec<u8>) -> Result<bool, SeekFault> {
-        let began = self.begin_reading();
-        let copied = match self.part(number) {
+        // (what was counted in time goes on, however slowly: it can't be refused any more)
+        match self.part(number) {
             Some(part) => part.copy(octets),
             None => Err(SeekFault::Device),
-        };
-        if let Ok(false) = copied {
-            return Ok(false);
         }
-        self.in_time(began)?;
-        copied
     }
 
     fn close_parts(&mut self, but: &[u64]) {

@@ -165,7 +165,7 @@ pub trait Scene {
 
     /// Adds the next octets of the part of a number, which may be none, and returns whether there are more.
     ///
-    /// Errors: as of `count_part`.
+    /// Errors: OutOfMemory; Device where they can't be read.
     fn copy_part(&mut self, _number: u64, _octets: &mut Vec<u8>) -> Result<bool, SeekFault> {
         Err(SeekFault::Device)
     }

@@ -10,7 +10,7 @@ use std::io::{self, BufReader, ErrorKind};
 use std::rt::{Clock, Files};
 
 /// The most octets of a file that are looked at in one turn for one who takes a part of what is kept.
-const PIECE: u64 = 1 << 18;
+const PIECE: u64 = 1 << 16;
 
 /// The octets that a reader of what is kept has room for.
 const ROOM: usize = 1 << 16;
