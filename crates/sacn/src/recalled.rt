@@ -136,10 +136,7 @@ impl<'b, 'a, R: Files + Clock> Recalled<'b, 'a, R> {
 
     // The part of a number.
     fn part(&mut self, number: u64) -> Option<&mut Part<R::File>> {
-        let place = self
-            .parts
-            .iter()
-            .position(|part| part.number() == number)?;
+        let place = self.parts.iter().position(|part| part.number() == number)?;
         self.parts.get_mut(place)
     }
 }

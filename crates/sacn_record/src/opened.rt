@@ -55,11 +55,7 @@ pub fn open_in_turn<R: Files>(
 }
 
 // Both files, at their beginnings.
-fn open_files<R: Files>(
-    rt: &R,
-    names: &Names<'_>,
-    filled: Filled,
-) -> io::Result<InTurn<R::File>> {
+fn open_files<R: Files>(rt: &R, names: &Names<'_>, filled: Filled) -> io::Result<InTurn<R::File>> {
     let first = match names.older() {
         Some(older) if filled.before > 0 => Some(fs::open(rt, older)?),
         _ => None,
