@@ -14,6 +14,7 @@ import sys
 import tempfile
 import threading
 import time
+import urllib.error
 import urllib.request
 from chromium import Browser, start, started, verdict
 import e131
@@ -26,6 +27,9 @@ LEVEL = "document.querySelector('#slot-1 b').textContent"
 STATES = "[...document.querySelectorAll('#sources tr')].map((it) => it.children[1].textContent + ' ' + it.children[2].textContent).join()"
 IS_NOW = "document.getElementById('live').hidden && document.getElementById('name').textContent == ''"
 IS_BACK = "!document.getElementById('live').hidden && document.getElementById('name').textContent == 'a moment before now'"
+# (a busy machine may have stopped the program, or have lost a source before)
+ENDED = "[...document.querySelectorAll('#alarms button')].filter((it) => / ended its stream/.test(it.textContent))"
+LOST = "[...document.querySelectorAll('#alarms button')].filter((it) => /: Crowd is lost/.test(it.textContent))"
 KEYS = {"home": "\ue011", "end": "\ue010", "right": "\ue014"}
 
 
@@ -70,11 +74,11 @@ def began(browser, console):
     console.level = 17
     shown.append(browser.until(f"{LEVEL} == '17'", 20))
     console.end_spare()
-    shown.append(browser.until("document.querySelectorAll('#alarms li').length == 1", 20))
+    shown.append(browser.until(f"{ENDED}.length == 1", 20))
     time.sleep(1.5)
     console.level = 18
     shown.append(browser.until(f"{LEVEL} == '18'", 20))
-    shown.append(browser.until("!document.getElementById('time-part').hidden && document.querySelectorAll('#marks option').length == 1 && film.length - film.first > 3000", 20))
+    shown.append(browser.until("!document.getElementById('time-part').hidden && document.querySelectorAll('#marks option').length > 0 && film.length - film.first > 3000", 20))
     verdict("the page of a watch that keeps the last minutes has a slider, and an alarm as its tick", None not in shown, f"{shown}")
     ends = browser.js("return [Number(document.getElementById('time').min), Number(document.querySelector('#marks option').value), Number(document.getElementById('time').max)]")
     verdict("the tick is between its ends", ends == sorted(ends), f"{ends}")
@@ -97,7 +101,8 @@ def went_back(browser, console):
     time.sleep(1.5)
     still = browser.js(f"return [{LEVEL}, document.getElementById('banner').hidden, {IS_BACK}]")
     verdict("what is heard meanwhile changes nothing of it, and no connection is lost", still == ["16", True, True], f"{still}")
-    browser.js("document.querySelector('#alarms button').click()")
+    browser.until(f"!{ENDED}[0].disabled", 20)
+    browser.js(f"{ENDED}[0].click()")
     took = browser.until(f"{LEVEL} == '17' && {STATES} == '1 sending,2 ended'", 20)
     verdict("an alarm's button goes to its moment", took is not None, browser.js(f"return [{LEVEL}, {STATES}]"))
     browser.js("document.getElementById('time').focus()")
@@ -111,6 +116,17 @@ def went_back(browser, console):
     browser.until("document.getElementById('levels-of').textContent == 'of universe 1'", 20)
 
 
+def part_at(where):
+    """A part's octets, and what it is called. (A machine that is busy for half a second is as slow as its disk would be: 503.)"""
+    for _ in range(5):
+        try:
+            with urllib.request.urlopen(f"http://127.0.0.1:{PAGE}{where}", timeout=20) as answer:
+                return answer.read(), answer.headers["Content-Disposition"]
+        except urllib.error.HTTPError as error:
+            kind = f"status {error.code}"
+    return b"", kind
+
+
 def saved(browser, _console):
     """From a mark at the first moment to the last one: the file's own octets."""
     press(browser, "home")
@@ -119,8 +135,7 @@ def saved(browser, _console):
     first, last = browser.js("return [film.first, film.at]")
     where = browser.js("return document.getElementById('save').getAttribute('href')")
     verdict("a part from the mark to the moment is offered", where == f"/recording?from={first}&to={last}", where)
-    with urllib.request.urlopen(f"http://127.0.0.1:{PAGE}{where}", timeout=20) as answer:
-        octets, kind = answer.read(), answer.headers["Content-Disposition"]
+    octets, kind = part_at(where)
     with open(f"{ROOM}/kept/ring.pcapng", "rb") as file:
         whole = file.read()
     # (a beginning of 108 octets, and blocks of 700: all packets up to the moment)
@@ -145,10 +160,10 @@ def came_to_now(browser, console):
 
 
 def went_dark(browser, console):
+    before = browser.js(f"return {LOST}.length")
     console.is_on = False
-    lines = "[...document.querySelectorAll('#alarms button')].filter((it) => /lost/.test(it.textContent))"
-    took = browser.until(f"{lines}.length == 1 && !{lines}[0].disabled", 20)
-    browser.js(f"{lines}[0].click()")
+    took = browser.until(f"{LOST}.length == {before} + 1 && !{LOST}[0].disabled", 20)
+    browser.js(f"{LOST}[0].click()")
     dark = browser.until(f"{IS_BACK} && {STATES} == '1 lost,2 ended'", 20)
     verdict("the loss of the last source can be gone to", took is not None and dark is not None, browser.js(f"return [film.at, film.length, {STATES}]"))
     browser.js("moveTo(film.at - 100)")
