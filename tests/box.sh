@@ -191,6 +191,13 @@ at "the moment of the packet behind the stop" "$again" 64 4
 answers "the moment before that" 200 "$at/state?at=$((again - 1))&universe=1"
 tells "it['counts']['datagrams'] == 3 and it['sources'][0]['state'] == 'lost'"
 verdict "it hadn't come at that" $? "$(head -c 300 body)"
+answers "what is kept behind the stop" 200 "$at/recording"
+start=$(number "it['start']")
+answers "the part of that packet" 200 "$at/recording?from=$again&to=$again"
+# (in microseconds, the high half first, behind a beginning of 108 octets and 12 of the block)
+stamp=$(python3 -c "import struct; high, low = struct.unpack_from('<II', open('body', 'rb').read(), 120); print(high << 32 | low)")
+[ "$(stat -c %s body)" = 808 ] && [ "$stamp" = $(((start + again) * 1000)) ]
+verdict "it is recorded at its moment of the page" $? "$stamp, $start and $again"
 
 # Parts as files: all is the file itself, octet by octet; one from the second packet on has no other.
 answers "all of it" 200 "$at/recording?from=0&to=99999999"
