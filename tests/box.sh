@@ -140,8 +140,10 @@ level() { printf "$(printf %02x "$1")%.0s" $(seq 512); }
 # is_kept MOMENT: whether what is kept goes on behind a moment; the answer is in body
 is_kept() { curl -s -m 10 -o body "$at/recording" && tells "it['length'] > $1"; }
 wait_until is_kept "$newest"
-# (a millisecond is lost where both clocks are read in whole ones)
-tells "$before - 1 <= it['start'] + $first < it['start'] + $newest <= $after + 1"
+# (a millisecond is lost where both clocks are read in whole ones; and the page's stands still while a busy machine stops the program, which it tells)
+curl -s -m 10 -o live "$at/state"
+tells "$before - 1 - sum(stops) <= it['start'] + $first < it['start'] + $newest <= $after + 1" \
+  "import re; stops = [float(re.search('[0-9.]+ s', a['text'])[0][:-2]) * 1000 + 1 for a in json.load(open('live'))['alarms'] if a['kind'] == 'stopped']"
 verdict "its moments are those of the machine's clock" $? "$(cat body) $before $after $moments"
 # at NAME MOMENT LEVEL DATAGRAMS: the state of a moment has this level on universe 1, after so many datagrams
 at() {
