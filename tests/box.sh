@@ -1,6 +1,8 @@
 #!/usr/bin/env bash
-# A watch that keeps the last minutes, whose page goes back to them, asked with curl: packets that are written here octet by octet, the moments before now and the dark
-# behind the last packet, parts that are taken as files, a stop of the program, a turn of the ring and one that fails, files in the way, slow looks and full disks. Prints 'ok NAME', 'not ok NAME: why' or 'skipped NAME: why' for each, as ./test counts them.
+# A watch that keeps the last minutes, whose page goes back to them, asked with curl: packets that are written here
+# octet by octet, the moments before now and the dark behind the last packet, parts that are taken as files, a stop of
+# the program, a turn of the ring and one that fails, files in the way, slow looks and full disks. Prints 'ok NAME',
+# 'not ok NAME: why' or 'skipped NAME: why' for each, as ./test counts them.
 set -u
 # shellcheck source=tests/lib.sh
 . "$(dirname "$(readlink -f "$0")")/lib.sh"
@@ -19,7 +21,8 @@ tcp=$(free_tcp_port)
 port=$(free_udp_port)
 at=http://127.0.0.1:$tcp
 
-# Sends what its words name: `sender.py PORT NUMBER:LEVEL[*TIMES]..`, packets on universe 1 whose 512 slots have one level.
+# Sends what its words name: `sender.py PORT NUMBER:LEVEL[*TIMES]..`, packets on universe 1 whose 512 slots have one
+# level.
 cat >sender.py <<'P'
 import socket, sys, time, e131
 out = socket.socket(socket.AF_INET, socket.SOCK_DGRAM)
@@ -60,13 +63,15 @@ refused "a folder with a recording" 4 "device write taken/ring-older.pcapng Alre
 [ "$(cat taken/ring-older.pcapng)" = kept ] && [ ! -e taken/ring.pcapng ]
 verdict "that stays as it was" $?
 
-# watches FOLDER MINUTES TCP UDP: a watch that keeps what it hears; its standard error is FOLDER.err, its process `watch`
+# watches FOLDER MINUTES TCP UDP: a watch that keeps what it hears; its standard error is FOLDER.err, its process
+# `watch`
 watches() {
   : >"$1.err"
   "$sacn" watch --page "$3" --port "$4" --record "$1" --ring "$2" </dev/null >/dev/null 2>"$1.err" &
   watch=$!
 }
-# The ring of a minute turns while the rest is looked at; and another one can't, since its disk has room for one file alone.
+# The ring of a minute turns while the rest is looked at; and another one can't, since its disk has room for one file
+# alone.
 mkdir turning failing
 later=$(free_tcp_port) and=$(free_udp_port)
 watches turning 1 "$later" "$and"
@@ -85,7 +90,8 @@ for it in turning kept; do wait_for_line "$it.err" '^page'; done
 [ "$(sed -n 2p kept.err)" = "keeps the last 5 minutes in kept/ring.pcapng, and up to 5 before these in kept/ring-older.pcapng" ]
 verdict "it tells its files" $? "$(sed -n 2p kept.err)"
 
-# answers NAME STATUS WORD..: curl is answered so; the answer is in body. (A machine that is busy for half a second is as slow as its disk would be: 503.)
+# answers NAME STATUS WORD..: curl is answered so; the answer is in body. (A machine that is busy for half a second is
+# as slow as its disk would be: 503.)
 answers() {
   local name=$1 wanted=$2 status
   shift 2
@@ -140,7 +146,8 @@ level() { printf "$(printf %02x "$1")%.0s" $(seq 512); }
 # is_kept MOMENT: whether what is kept goes on behind a moment; the answer is in body
 is_kept() { curl -s -m 10 -o body "$at/recording" && tells "it['length'] > $1"; }
 wait_until is_kept "$newest"
-# (a millisecond is lost where both clocks are read in whole ones; and the page's stands still while a busy machine stops the program, which it tells)
+# (a millisecond is lost where both clocks are read in whole ones; and the page's stands still while a busy machine
+# stops the program, which it tells)
 curl -s -m 10 -o live "$at/state"
 tells "$before - 1 - sum(stops) <= it['start'] + $first < it['start'] + $newest <= $after + 1" \
   "import re; stops = [float(re.search('[0-9.]+ s', a['text'])[0][:-2]) * 1000 + 1 for a in json.load(open('live'))['alarms'] if a['kind'] == 'stopped']"
@@ -231,7 +238,8 @@ answers "all of it, later" 200 "$at/recording?from=0&to=99999999"
 verdict "nothing of it is missing" $? "$(stat -c '%n %s' body kept/ring.pcapng | paste -s -d ' ')"
 at "a moment long ago" "$first" 16 1
 
-# Who asks for a part and takes nothing of it holds nobody up, but has one of four places; and has all of it later, also where the file has lost its name by then.
+# Who asks for a part and takes nothing of it holds nobody up, but has one of four places; and has all of it later, also
+# where the file has lost its name by then.
 # (segments as short as on a wire keep the kernel from holding a whole part for them)
 cat >stuck.py <<'P'
 import os, socket, sys, time
@@ -282,7 +290,8 @@ verdict "a part that is taken slowly is whole, and as long as its head says, tho
 answers "a moment of a file that is gone" 500 "$at/state?at=$first"
 answers "the part of a file that is gone" 500 "$at/recording?from=0&to=99999999"
 answers "the present" 200 "$at/state"
-# A look that takes the disk too long is refused, and it alone: here opening the file takes until somebody opens the other end.
+# A look that takes the disk too long is refused, and it alone: here opening the file takes until somebody opens the
+# other end.
 mkfifo kept/ring.pcapng
 curl -s -m 30 -o /dev/null -w '%{http_code}' "$at/state?at=$first" >slow &
 look=$!

@@ -18,7 +18,8 @@ use std::alloc::Global;
 use std::io::{self, ErrorKind, Write};
 use std::rt::{Clock, Files};
 
-/// A disk that takes so many milliseconds for what is read of it at once is too slow for a look: a watch hears nothing meanwhile.
+/// A disk that takes so many milliseconds for what is read of it at once is too slow for a look: a watch hears nothing
+/// meanwhile.
 const TOO_LONG: u64 = 500;
 
 /// A ring of two files that take what a watch hears. Moments are readings of the page's clock, in milliseconds.
@@ -180,7 +181,8 @@ impl<'a, R: Files + Clock> Ring<'a, R> {
         }
     }
 
-    /// The last moment that can be sought: the one before that up to which all is in a file, since at that itself more may come.
+    /// The last moment that can be sought: the one before that up to which all is in a file, since at that itself more
+    /// may come.
     pub fn last(&self) -> u64 {
         self.until.saturating_sub(1).max(self.kept().from)
     }

@@ -68,8 +68,8 @@ impl<'b, 'a, R: Files + Clock> Recalled<'b, 'a, R> {
         }
     }
 
-    // Whether more may be read for one who looks, or where what was read failed why: not where the disk has taken too long since a
-    // reading of the machine's clock.
+    // Whether more may be read for one who looks, or where what was read failed why: not where the disk has taken too
+    // long since a reading of the machine's clock.
     fn in_time(&self, began: u64) -> Result<(), SeekFault> {
         let is_late = match self.ring.try_borrow_mut() {
             Ok(mut ring) => ring.is_late(began),

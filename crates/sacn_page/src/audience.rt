@@ -267,8 +267,8 @@ impl<C: Connection + Drop, S: Scene + Drop> Audience<C, S> {
         self.is_behind = self.feed_viewers(now);
     }
 
-    // Answers those who wait for a moment of the recording, the first that asked first, as far as one turn reads: of a network that is heard meanwhile,
-    // one of them.
+    // Answers those who wait for a moment of the recording, the first that asked first, as far as one turn reads: of a
+    // network that is heard meanwhile, one of them.
     fn seek(&mut self, now: u64) {
         for _ in 0..MAX_CONNECTIONS {
             let Some((key, goal)) = self.first_waiting() else {

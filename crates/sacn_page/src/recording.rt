@@ -106,7 +106,8 @@ impl<T: Tape + Drop> Recording<T> {
         Ok(true)
     }
 
-    /// It is what is kept of a network. From now on moments of it are sought up to this one, in milliseconds: more may have come by it.
+    /// It is what is kept of a network. From now on moments of it are sought up to this one, in milliseconds: more may
+    /// have come by it.
     pub fn grow(&mut self, kept: Kept, to: u64) {
         self.facts.kept = Some(kept);
         self.facts.length = to;

@@ -181,7 +181,8 @@ impl<R: BufRead + Drop> Replay<R> {
         matches!(self.next, Next::Nothing(_))
     }
 
-    /// Moves the clock on to a moment up to which no more came than it has followed: what is known is then as old as that.
+    /// Moves the clock on to a moment up to which no more came than it has followed: what is known is then as old as
+    /// that.
     pub fn stand(&mut self, moment: u64)
         ensures known { known_to self.new.board
             ≡ after_call (Tick (max moment self.old.shown)) (known_to self.old.board) }

@@ -29,7 +29,8 @@ pub enum Target {
     Events(Option<u16>),
     /// What is known of a recording as a whole: `/recording`.
     Recording,
-    /// What was recorded beside a network from one moment to another, as a file: `/recording?from=..&to=..`, milliseconds.
+    /// What was recorded beside a network from one moment to another, as a file: `/recording?from=..&to=..`,
+    /// milliseconds.
     Part(Window),
     /// What was found about the senders of a network: `/audit`.
     Findings,
@@ -40,7 +41,8 @@ pub enum Target {
 pub enum RequestRefusal {
     /// The head isn't one of HTTP, is cut off, or names no universe where it should.
     Malformed,
-    /// A moment is named that is no number, or comes before one that it shouldn't, or of a network, which has none but the present.
+    /// A moment is named that is no number, or comes before one that it shouldn't, or of a network, which has none but
+    /// the present.
     Moment,
     /// A body is announced.
     Body,

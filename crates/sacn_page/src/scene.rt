@@ -132,7 +132,8 @@ pub trait Scene {
         false
     }
 
-    /// Whether moments before now can be sought: of a recording those of it, of a network those that are kept beside it.
+    /// Whether moments before now can be sought: of a recording those of it, of a network those that are kept beside
+    /// it.
     ///
     /// Errors: OutOfMemory; Device where what is kept can't be read.
     fn recall(&mut self) -> Result<bool, SeekFault> {
@@ -149,7 +150,8 @@ pub trait Scene {
         self.board()
     }
 
-    /// Opens the part of what is kept by now whose moments lie in a window, under a number, and returns whether anything is kept.
+    /// Opens the part of what is kept by now whose moments lie in a window, under a number, and returns whether
+    /// anything is kept.
     ///
     /// Errors: OutOfMemory; Device or Slow where what is kept can't be opened; Full where as many are open as may be.
     fn open_part(&mut self, _window: Window, _number: u64) -> Result<bool, SeekFault> {

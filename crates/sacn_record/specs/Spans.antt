@@ -12,7 +12,8 @@ use Rattle.sacn_record.specs.Sessions.{counted}
 abbrev pub is_in : Period → ℕ → Bool
 is_in span moment = nat_le span.first moment && nat_le moment span.last
 
--- the moment that a reading of a clock stands for which read 0 at this one: milliseconds both, and microseconds since 1970
+-- the moment that a reading of a clock stands for which read 0 at this one: milliseconds both, and microseconds since
+-- 1970
 abbrev pub stamp : ℕ → ℕ → ℕ
 stamp origin reading = counted (counted (origin + reading) * 1000)
 

@@ -15,7 +15,8 @@ use crate::wire::Arrived;
 use std::alloc::Global;
 use std::io;
 
-/// A recorder of what another loop hears: it is told each datagram, and when there is time to put what came into a file.
+/// A recorder of what another loop hears: it is told each datagram, and when there is time to put what came into a
+/// file.
 #[derive(Drop)]
 pub struct Recorder {
     waiting: Waiting,

@@ -126,7 +126,8 @@ impl<'a, R: Files> FileTapes<'a, R> {
         self.filled
     }
 
-    // Takes back what was put in part, so that the file ends with a whole block. One of which nothing is whole is removed.
+    // Takes back what was put in part, so that the file ends with a whole block. One of which nothing is whole is
+    // removed.
     fn take_back(&mut self) {
         if self.filled.latest == 0 {
             self.file = None;
@@ -148,8 +149,9 @@ fn passed_over(renamed: io::Result<()>) -> io::Result<()> {
 }
 
 impl<'a, R: Files> Tapes for FileTapes<'a, R> {
-    /// Never writes over a file but the older one of its own. Where somebody has moved the one before away, it stays there. Where the
-    /// next can't be begun, the one before it stays whole: as the latest, or, once it has that name, as the older one.
+    /// Never writes over a file but the older one of its own. Where somebody has moved the one before away, it stays
+    /// there. Where the next can't be begun, the one before it stays whole: as the latest, or, once it has that name,
+    /// as the older one.
     fn begin(&mut self) -> io::Result<()> {
         if self.file.is_some() {
             if let Some(older) = self.names.older() {

@@ -45,8 +45,8 @@ pub fn files_give_what_was_heard()
     each_is_kept_once();
 }
 
-/// What `cut_span` gives of the files of a recording, behind one beginning, is the recording of exactly those of its datagrams whose
-/// moments lie in the span, in their order: whole blocks, each octet by octet as it was.
+/// What `cut_span` gives of the files of a recording, behind one beginning, is the recording of exactly those of its
+/// datagrams whose moments lie in the span, in their order: whole blocks, each octet by octet as it was.
 pub fn a_span_is_a_recording()
     ensures { ASpanIsARecording }
 {}

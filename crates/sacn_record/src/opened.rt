@@ -68,8 +68,8 @@ fn open_files<R: Files>(rt: &R, names: &Names<'_>, filled: Filled) -> io::Result
     Ok(InTurn { first, last })
 }
 
-/// The two latest files of a recording as they were at one time, open: neither what is put into them later changes them, nor that they
-/// get other names, or none.
+/// The two latest files of a recording as they were at one time, open: neither what is put into them later changes
+/// them, nor that they get other names, or none.
 #[derive(Drop)]
 pub struct OpenFiles<F> {
     files: InTurn<F>,

@@ -5,8 +5,9 @@ ghost use Rattle.sacn_record.specs.Spans.{stamp};
 
 use crate::span::Period;
 
-/// When a loop's clock read 0, in milliseconds since 1970. Each reading stands for one moment, whatever the machine's time of day is set to later, and for however
-/// long the program is stopped: so the moments of a recording are those of the loop.
+/// When a loop's clock read 0, in milliseconds since 1970. Each reading stands for one moment, whatever the machine's
+/// time of day is set to later, and for however long the program is stopped: so the moments of a recording are those of
+/// the loop.
 #[derive(Clone, Copy)]
 pub struct Origin {
     pub millis: u64,

@@ -179,8 +179,8 @@ fn one_more(count: u64) -> u64
     count.saturating_add(1)
 }
 
-/// Puts what waits into the latest file, which was begun at this reading, or where that is full into another one. Returns when the file
-/// was begun that is then the latest.
+/// Puts what waits into the latest file, which was begun at this reading, or where that is full into another one.
+/// Returns when the file was begun that is then the latest.
 pub fn keep<T: Tapes>(
     tapes: &mut T,
     plan: &RecordPlan<'_>,

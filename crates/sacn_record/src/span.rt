@@ -31,9 +31,10 @@ impl Period {
     }
 }
 
-/// Puts out of the whole blocks at the front of some octets those of a span, octet by octet, and returns how many octets the whole
-/// blocks are: behind these a part of a block stands, or nothing, or what is no block. All blocks but those of packets are left
-/// out, so that the files of a recording, one after another behind one beginning, make one recording.
+/// Puts out of the whole blocks at the front of some octets those of a span, octet by octet, and returns how many
+/// octets the whole blocks are: behind these a part of a block stands, or nothing, or what is no block. All blocks but
+/// those of packets are left out, so that the files of a recording, one after another behind one beginning, make one
+/// recording.
 ///
 /// Errors: a growth was refused.
 pub fn cut_span(octets: &[u8], span: Period, out: &mut Vec<u8>) -> Result<usize, AllocError>

@@ -34,7 +34,8 @@ impl<'b, 'a, L: Listener, R: Files + Clock> RingListener<'b, 'a, L, R> {
         }
     }
 
-    /// Puts what came since the last call into a file. Each wait begins so; behind the last one this is called once more.
+    /// Puts what came since the last call into a file. Each wait begins so; behind the last one this is called once
+    /// more.
     pub fn keep(&mut self) {
         if let Ok(mut ring) = self.ring.try_borrow_mut() {
             ring.keep();

@@ -16,8 +16,8 @@ fn taken_by<C: Connection>(viewer: &Viewer<C>) -> Option<Copying> {
 }
 
 impl<C: Connection + Drop, S: Scene + Drop> Audience<C, S> {
-    // Gives one of those that take a part of the recording what comes next of it: each turn another one. Parts that nobody takes any
-    // more are closed.
+    // Gives one of those that take a part of the recording what comes next of it: each turn another one. Parts that
+    // nobody takes any more are closed.
     pub(super) fn hand_on(&mut self, now: u64) {
         let _ = self.close_parts();
         for _ in 0..MAX_CONNECTIONS {

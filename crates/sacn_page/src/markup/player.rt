@@ -41,7 +41,8 @@ function momentsOf(line, spell) {
 
 /// It follows that of the alarms, of a network of which the last minutes are kept.
 pub const REACH: &str = r##"
-// The moments before now that are kept, asked for each second. A moment is looked at as one of a recording is; what is heard meanwhile waits.
+// The moments before now that are kept, asked for each second. A moment is looked at as one of a recording is; what is
+// heard meanwhile waits.
 const isKept = document.documentElement.dataset.keeps === 'true';
 let isBack = false, isReaching = false, cutFrom = null;
 async function followReach() {
